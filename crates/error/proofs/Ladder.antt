@@ -1,0 +1,24 @@
+-- The ladder of refusals, rung by rung, and what `if !f(x)` tells of the test that f's answer equals. Assumes nothing.
+use mathlib.Core.Bool.{Bool, true, false, not}
+use mathlib.Core.List.{List}
+use mathlib.Core.Path.{_≡_, refl, sym, _∙_}
+use Prim.Native.Nat.{ℕ}
+use borrow.Author.Tests.{not-true, not-false}
+use lib.Ieee.{Float}
+use Rattle.error.specs.Refusals.{Said, refused, unless}
+
+-- the test passes: the next rung decides
+pub pass : {A : Type 0} (b : Bool) (n : ℕ) (vs : List Float) (next x : Said A) → b ≡ true → x ≡ next → x ≡ unless b n vs next
+unfolding unless
+pass b n vs next x h k = rw h k
+
+-- the test fails: the refusal
+pub stop : {A : Type 0} (b : Bool) (n : ℕ) (vs : List Float) (next : Said A) → b ≡ false → refused n vs ≡ unless b n vs next
+unfolding unless
+stop b n vs next h = rw h
+
+pub failed : {r b : Bool} → r ≡ b → not r ≡ true → b ≡ false
+failed {r} e t = sym e ∙ not-true r t
+
+pub passed : {r b : Bool} → r ≡ b → not r ≡ false → b ≡ true
+passed {r} e t = sym e ∙ not-false r t

@@ -1,0 +1,3 @@
+-- Laws of the refusals. Assumes nothing.
+pub mod Ladder
+pub mod Settled

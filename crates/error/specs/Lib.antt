@@ -1,0 +1,2 @@
+-- The refusals. Definitions only.
+pub mod Refusals

@@ -1,0 +1,10 @@
+-- What a rounding costs: one rounding, sums, products, quotients, comparisons, running sums. Assumes nothing.
+pub mod Whole
+pub mod Exact
+pub mod Rounding
+pub mod Sums
+pub mod Products
+pub mod Order
+pub mod Running
+pub mod Integers
+pub mod Doubles
