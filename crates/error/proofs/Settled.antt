@@ -12,11 +12,10 @@ use Rattle.error.specs.declared.Answer.the-variants.{Value, Refused}
 use Rattle.error.specs.Refusals.{numberOf, valuesOf, Said, given, refused, saidAnswer}
 
 -- the refusal of a number and its floats
-refusalOf : ℕ → List Float → Refusal
+abbrev pub refusalOf : ℕ → List Float → Refusal
 refusalOf n vs =
-    let v = λ (k : ℕ). getD vs k zeroF in
     getD
-    (Argument ∷ InvalidRatio (v 0) ∷ InvalidRelativeRatio (v 0) ∷ InvalidChunkSize ∷ RatioOutOfBounds (v 0) (v 1) (v 2) ∷ RatioBeyondPort (v 0) ∷ SizeTooLarge ∷ Channels ∷ BufferShape ∷ Reach ∷ StateRecord ∷ [])
+    (Argument ∷ InvalidRatio (getD vs 0 zeroF) ∷ InvalidRelativeRatio (getD vs 0 zeroF) ∷ InvalidChunkSize ∷ RatioOutOfBounds (getD vs 0 zeroF) (getD vs 1 zeroF) (getD vs 2 zeroF) ∷ RatioBeyondPort (getD vs 0 zeroF) ∷ SizeTooLarge ∷ Channels ∷ BufferShape ∷ Reach ∷ StateRecord ∷ [])
     n Argument
 
 pub refusal-back : (r : Refusal) → refusalOf (numberOf r) (valuesOf r) ≡ r
