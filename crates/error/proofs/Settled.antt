@@ -40,6 +40,7 @@ answerOf (given v) = Value v
 answerOf (refused n vs) = Refused (refusalOf n vs)
 
 answer-back : (a : Answer) → answerOf (saidAnswer a) ≡ a
+unfolding answerOf
 answer-back (Value v) = refl
 answer-back (Refused r) = ap Refused (refusal-back r)
 
