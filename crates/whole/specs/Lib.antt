@@ -1,0 +1,2 @@
+-- Whole numbers out of doubles, worked out by the port. Definitions only.
+pub mod Rounded
