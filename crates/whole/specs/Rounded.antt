@@ -6,7 +6,7 @@ use lib.Dec.{eqb}
 use lib.IntN.{ℤ}
 use lib.Ieee.{Float, nan, inf, fin, up, down, neg}
 use Rattle.exact.specs.Doubles.{count, _-f_}
-use Rattle.whole.specs.declared.Split.{Split}
+use Rattle.whole.specs.declared.Parts.{Parts}
 
 -- of the fraction a / d: its whole part, the least whole number not below it, and the nearest whole number, the larger one at a half
 abbrev pub partDiv : ℕ → ℕ → ℕ
@@ -45,5 +45,5 @@ abbrev pub roundOf : Float → Float
 roundOf = madeWhole (λ s a d. nearDiv a d)
 
 -- the floor, and what x is above it, rounded once: that can be 1.0 and is used so
-abbrev pub splitOf : Float → Split
+abbrev pub splitOf : Float → Parts
 splitOf x = record { floor = floorOf x; frac = x -f floorOf x }

@@ -1,10 +1,107 @@
 // Whole numbers out of doubles: floor, ceiling, truncation and round half away from zero for every
 // bit pattern, and `split`, the one way to the whole part and the fraction of an index.
+//
+// A sign is dealt with once, in the four public functions: of a negative x the size -x goes to
+// `part`, `over` or `near`, and the sign is put back. So a zero keeps its sign, and so does a
+// number that goes to zero.
 ghost use mathlib.Core.Path.{_≡_};
-ghost use Rattle.whole.specs.Rounded.{splitOf};
+ghost use mathlib.Core.Bool.{false};
+ghost use lib.Ieee.{lt};
+ghost use Rattle.exact.specs.Doubles.{zeroF};
+ghost use Rattle.whole.specs.Rounded.{floorOf, ceilOf, truncOf, roundOf, splitOf};
 
 // The floor of a double, and what the double is above it.
-pub struct Split {
+pub struct Parts {
     pub floor: f64,
     pub frac: f64,
+}
+
+// The whole part of an x that is not below 0. From 2^52 on a double has no fraction; that x, an
+// infinity, a NaN and a zero of either sign are themselves.
+fn part(x: f64) -> f64
+    requires { ⌜ lt x zeroF ≡ false ⌝ }
+    ensures { λ r. ⌜ r ≡ truncOf x ⌝ }
+{
+    if (x > 0.0) & (x < 4503599627370496.0) {
+        let n = std::num::truncating_f64_to_u64(x);
+        return std::num::nearest_u64_to_f64(n);
+    }
+    x
+}
+
+// The least whole number not below an x that is not below 0: one more where something is left.
+fn over(x: f64) -> f64
+    requires { ⌜ lt x zeroF ≡ false ⌝ }
+    ensures { λ r. ⌜ r ≡ ceilOf x ⌝ }
+{
+    let y = part(x);
+    if y < x {
+        return y + 1.0;
+    }
+    y
+}
+
+// The nearest whole number to an x that is not below 0: one more where a half or more is left. What
+// is left is a double, so the difference is exact.
+fn near(x: f64) -> f64
+    requires { ⌜ lt x zeroF ≡ false ⌝ }
+    ensures { λ r. ⌜ r ≡ roundOf x ⌝ }
+{
+    let y = part(x);
+    if x - y >= 0.5 {
+        return y + 1.0;
+    }
+    y
+}
+
+// The greatest whole number not above x.
+pub fn floor(x: f64) -> f64
+    ensures { λ r. ⌜ r ≡ floorOf x ⌝ }
+{
+    if x < 0.0 {
+        return -over(-x);
+    }
+    part(x)
+}
+
+// The least whole number not below x.
+pub fn ceil(x: f64) -> f64
+    ensures { λ r. ⌜ r ≡ ceilOf x ⌝ }
+{
+    if x < 0.0 {
+        return -part(-x);
+    }
+    over(x)
+}
+
+// x without its fraction: toward zero.
+pub fn trunc(x: f64) -> f64
+    ensures { λ r. ⌜ r ≡ truncOf x ⌝ }
+{
+    if x < 0.0 {
+        return -part(-x);
+    }
+    part(x)
+}
+
+// The nearest whole number, a half away from zero.
+pub fn round(x: f64) -> f64
+    ensures { λ r. ⌜ r ≡ roundOf x ⌝ }
+{
+    if x < 0.0 {
+        return -near(-x);
+    }
+    near(x)
+}
+
+// The floor, and the fraction x - floor(x), rounded once: of an x just below a whole number it is
+// 1.0, and callers use it so.
+pub fn split(x: f64) -> Parts
+    ensures { λ r. ⌜ r ≡ splitOf x ⌝ }
+{
+    let y = floor(x);
+    Parts {
+        floor: y,
+        frac: x - y,
+    }
 }

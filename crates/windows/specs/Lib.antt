@@ -1,1 +1,2 @@
--- In the making.
+-- The cutoff of a window. Definitions only.
+pub mod Cutoff

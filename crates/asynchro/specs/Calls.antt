@@ -1,0 +1,114 @@
+-- The calls on a ratio state, each as one outcome for every input: document 01's refusals in its order, then the record. Definitions only.
+use mathlib.Core.Bool.{Bool, true, false, cond, _&&_}
+use mathlib.Core.List.{[], _∷_}
+use Prim.Native.Nat.{ℕ}
+use lib.Dec.{leb}
+use lib.Ieee.{Float, le}
+use Rattle.exact.specs.Doubles.{_*f_, _/f_, oneF, aboveZero, atLeastOne}
+use Rattle.error.specs.Refusals.{Said, given, refused, unless, numberOf, valuesOf}
+use Rattle.asynchro_fast.specs.declared.PolynomialDegree.{PolynomialDegree}
+use Rattle.asynchro_fast.specs.Degrees.{pointsOf}
+use Rattle.asynchro.specs.declared.sizes.FixedAsync.{FixedAsync}
+use Rattle.asynchro.specs.declared.record.State.{State}
+use Rattle.asynchro.specs.declared.Done.{Done}
+use Rattle.asynchro.specs.declared.Done.the-variants as done
+use Rattle.asynchro.specs.declared.Count.{Count}
+use Rattle.asynchro.specs.declared.Count.the-variants as counted
+use Rattle.asynchro.specs.declared.Outcome.{Outcome}
+use Rattle.asynchro.specs.Bounds.{isRatio, isChannels}
+use Rattle.asynchro.specs.Sizes.{startOf, isFrames, framesOf, delayOf}
+use Rattle.asynchro.specs.Record.{pointsIn, maxInputOf, maxOutputOf, maximaHold, isState, changed, updateLengths}
+
+-- What a call on a record leaves: the record, and what it says.
+pub record Result (A : Type 0) : Type 0 where
+  pub state : State
+  pub said : Said A
+
+-- the new record, or on a refusal the record given
+abbrev pub endOf : State → Said State → Result Unit
+endOf s (given t) = record { state = t; said = given tt }
+endOf s (refused n vs) = record { state = s; said = refused n vs }
+
+-- ---- construction: 1, 2, 3, 5, 7, 6
+-- the record before its sizes are worked out
+abbrev pub freshState : Float → Float → PolynomialDegree → ℕ → ℕ → FixedAsync → State
+freshState r m degree chunk channels fixed =
+    record { channels = channels; chunk = chunk; chunk0 = chunk; input = 0; output = 0; fill = 0; index = startOf (pointsOf degree); original = r; current = r; target = r; m = m; degree = degree; fixed = fixed }
+
+-- "Fill starts at the needed input."
+abbrev pub withFill : State → ℕ → State
+withFill s n = changed s (s .chunk) (s .input) (s .output) n (s .index) (s .current) (s .target)
+
+abbrev pub filled : Said State → Said State
+filled (given s) = given (withFill s (s .input))
+filled (refused n vs) = refused n vs
+
+-- refusal 6 of construction: "at construction also a maximum size"
+unfoldable pub firstLengths : State → Said State
+unfolding unless updateLengths
+firstLengths s = unless (maximaHold s) 6 [] (filled (updateLengths s))
+
+unfoldable pub construct : Float → Float → PolynomialDegree → ℕ → ℕ → FixedAsync → Said State
+unfolding unless firstLengths
+construct r m degree chunk channels fixed =
+    unless (aboveZero r) 1 (r ∷ [])
+    (unless (atLeastOne m) 2 (m ∷ [])
+    (unless (leb 1 chunk) 3 []
+    (unless (isRatio r) 5 (r ∷ [])
+    (unless (isChannels channels) 7 []
+    (firstLengths (freshState r m degree chunk channels fixed))))))
+
+-- ---- ratio settings: 10, 4, 5, 6
+-- "Accepted under 4 if 1/m <= rel <= m"
+abbrev pub relativeHolds : Float → Float → Bool
+relativeHolds m rel = le (oneF /f m) rel && le rel m
+
+-- "Both set the target. Without ramp they set the current ratio too."
+abbrev pub withRatio : State → Float → Bool → State
+withRatio s r ramp = changed s (s .chunk) (s .input) (s .output) (s .fill) (s .index) (cond ramp (s .current) r) r
+
+-- the new ratio r, which passes under 4 where `accepted` holds; "in both forms provided is the new ratio"
+abbrev pub applied : State → Bool → Float → Bool → Said State
+applied s accepted r ramp =
+    unless (isState s) 10 []
+    (unless accepted 4 (r ∷ s .original ∷ s .m ∷ [])
+    (unless (isRatio r) 5 (r ∷ [])
+    (updateLengths (withRatio s r ramp))))
+
+-- "An absolute setting divides by the original ratio to get rel"
+abbrev pub setRatio : State → Float → Bool → Result Unit
+setRatio s r ramp = endOf s (applied s (relativeHolds (s .m) (r /f s .original)) r ramp)
+
+-- "a relative one multiplies to get the new ratio .. and for the relative form the product is finite and above 0"
+abbrev pub setRelative : State → Float → Bool → Result Unit
+setRelative s rel ramp = endOf s (applied s (aboveZero (s .original *f rel) && relativeHolds (s .m) rel) (s .original *f rel) ramp)
+
+-- ---- chunk setting: 10, 3, 6
+abbrev pub withChunk : State → ℕ → State
+withChunk s n = changed s n (s .input) (s .output) (s .fill) (s .index) (s .current) (s .target)
+
+-- "chunk 0; on a later setting also above the construction chunk"
+abbrev pub chunked : State → ℕ → Said State
+chunked s n =
+    unless (isState s) 10 []
+    (unless (leb 1 n && leb n (s .chunk0)) 3 []
+    (updateLengths (withChunk s n)))
+
+abbrev pub setChunk : State → ℕ → Result Unit
+setChunk s n = endOf s (chunked s n)
+
+-- ---- questions: 10 only
+abbrev pub asked : {A : Type 0} → State → A → Said A
+asked s a = unless (isState s) 10 [] (given a)
+
+-- ---- the answers in document 01's words
+abbrev pub saidDone : Done → Said Unit
+saidDone done.Accepted = given tt
+saidDone (done.Refused r) = refused (numberOf r) (valuesOf r)
+
+abbrev pub saidCount : Count → Said ℕ
+saidCount (counted.Number n) = given n
+saidCount (counted.Refused r) = refused (numberOf r) (valuesOf r)
+
+abbrev pub resultOf : Outcome → Result Unit
+resultOf o = record { state = o .state; said = saidDone (o .answer) }

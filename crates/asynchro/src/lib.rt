@@ -1,0 +1,252 @@
+// The ratio state: construction, settings and questions. Document 01: "The ratio state", "Ratio
+// changes", "Refusal numbers".
+pub mod record;
+pub mod sizes;
+use asynchro_fast::PolynomialDegree;
+use error::{Answer, Refusal};
+use record::{Made, State};
+use sizes::FixedAsync;
+ghost use mathlib.Core.Path.{_≡_};
+ghost use Rattle.error.specs.Refusals.{saidAnswer};
+ghost use Rattle.exact.specs.Doubles.{aboveZero};
+ghost use Rattle.asynchro.specs.Sizes.{framesOf, delayOf};
+ghost use Rattle.asynchro.specs.Record.{pointsIn, maxInputOf, maxOutputOf, saidMade};
+ghost use Rattle.asynchro.specs.Calls.{
+    saidCount, resultOf, endOf, freshState, firstLengths, construct, relativeHolds, applied,
+    setRatio, setRelative, chunked, setChunk, asked,
+};
+
+// What a setting answers.
+pub enum Done {
+    Accepted,
+    Refused(Refusal),
+}
+
+// What a call on a record leaves: the new record, or on a refusal the record given.
+pub struct Outcome {
+    pub state: State,
+    pub answer: Done,
+}
+
+// What a question about a number of frames or channels answers.
+pub enum Count {
+    Number(usize),
+    Refused(Refusal),
+}
+
+// Finite and above 0; false for a NaN.
+fn above_zero(x: f64) -> bool
+    ensures { λ b. ⌜ b ≡ aboveZero x ⌝ }
+{
+    (x > 0.0) & (x < 1.0 / 0.0)
+}
+
+// What a call on s leaves, where s stands on a refusal.
+pub fn end_of(s: State, made: Made) -> Outcome
+    ensures { λ o. ⌜ resultOf o ≡ endOf s (saidMade made) ⌝ }
+{
+    match made {
+        Made::Ready(next) => Outcome {
+            state: next,
+            answer: Done::Accepted,
+        },
+        Made::Refused(r) => Outcome {
+            state: s,
+            answer: Done::Refused(r),
+        },
+    }
+}
+
+fn fresh_state(
+    r: f64,
+    m: f64,
+    degree: PolynomialDegree,
+    chunk: usize,
+    channels: usize,
+    fixed: FixedAsync,
+) -> State
+    ensures { λ s. ⌜ s ≡ freshState r m degree chunk channels fixed ⌝ }
+{
+    State {
+        channels,
+        chunk,
+        chunk0: chunk,
+        input: 0,
+        output: 0,
+        fill: 0,
+        index: sizes::start_index(asynchro_fast::nbr_points(degree)),
+        original: r,
+        current: r,
+        target: r,
+        m,
+        degree,
+        fixed,
+    }
+}
+
+// Construction's last rungs: 6, and the fill.
+fn first_lengths(s: State) -> Made
+    ensures { λ r. ⌜ saidMade r ≡ firstLengths s ⌝ }
+{
+    if !record::maxima_hold(s) {
+        return Made::Refused(Refusal::SizeTooLarge);
+    }
+    match record::update_lengths(s) {
+        Made::Ready(t) => {
+            let mut next = t;
+            next.fill = t.input;
+            Made::Ready(next)
+        }
+        Made::Refused(e) => Made::Refused(e),
+    }
+}
+
+// Construction: refusals 1, 2, 3, 5, 7, 6. It is lent no area.
+pub fn new_poly(
+    r: f64,
+    m: f64,
+    degree: PolynomialDegree,
+    chunk: usize,
+    channels: usize,
+    fixed: FixedAsync,
+) -> Made
+    ensures { λ s. ⌜ saidMade s ≡ construct r m degree chunk channels fixed ⌝ }
+{
+    if !above_zero(r) {
+        return Made::Refused(Refusal::InvalidRatio(r));
+    }
+    if !record::at_least_one(m) {
+        return Made::Refused(Refusal::InvalidRelativeRatio(m));
+    }
+    if chunk < 1 {
+        return Made::Refused(Refusal::InvalidChunkSize);
+    }
+    if !record::is_ratio(r) {
+        return Made::Refused(Refusal::RatioBeyondPort(r));
+    }
+    if !record::is_channels(channels) {
+        return Made::Refused(Refusal::Channels);
+    }
+    first_lengths(fresh_state(r, m, degree, chunk, channels, fixed))
+}
+
+fn relative_ratio_in_bounds(m: f64, rel: f64) -> bool
+    ensures { λ b. ⌜ b ≡ relativeHolds m rel ⌝ }
+{
+    (rel >= 1.0 / m) & (rel <= m)
+}
+
+// The new ratio r; `accepted` says that it passes under 4.
+fn apply_ratio(s: State, accepted: bool, r: f64, ramp: bool) -> Made
+    ensures { λ t. ⌜ saidMade t ≡ applied s accepted r ramp ⌝ }
+{
+    if !record::is_state(s) {
+        return Made::Refused(Refusal::StateRecord);
+    }
+    if !accepted {
+        return Made::Refused(Refusal::RatioOutOfBounds(r, s.original, s.m));
+    }
+    if !record::is_ratio(r) {
+        return Made::Refused(Refusal::RatioBeyondPort(r));
+    }
+    let mut next = s;
+    next.target = r;
+    if !ramp {
+        next.current = r;
+    }
+    record::update_lengths(next)
+}
+
+// An absolute setting.
+pub fn set_resample_ratio(s: State, r: f64, ramp: bool) -> Outcome
+    ensures { λ o. ⌜ resultOf o ≡ setRatio s r ramp ⌝ }
+{
+    let accepted = relative_ratio_in_bounds(s.m, r / s.original);
+    end_of(s, apply_ratio(s, accepted, r, ramp))
+}
+
+// A relative setting.
+pub fn set_resample_ratio_relative(s: State, rel: f64, ramp: bool) -> Outcome
+    ensures { λ o. ⌜ resultOf o ≡ setRelative s rel ramp ⌝ }
+{
+    let r = s.original * rel;
+    let accepted = above_zero(r) & relative_ratio_in_bounds(s.m, rel);
+    end_of(s, apply_ratio(s, accepted, r, ramp))
+}
+
+fn apply_chunk(s: State, n: usize) -> Made
+    ensures { λ t. ⌜ saidMade t ≡ chunked s n ⌝ }
+{
+    if !record::is_state(s) {
+        return Made::Refused(Refusal::StateRecord);
+    }
+    if !((1 <= n) & (n <= s.chunk0)) {
+        return Made::Refused(Refusal::InvalidChunkSize);
+    }
+    let mut next = s;
+    next.chunk = n;
+    record::update_lengths(next)
+}
+
+pub fn set_chunk_size(s: State, n: usize) -> Outcome
+    ensures { λ o. ⌜ resultOf o ≡ setChunk s n ⌝ }
+{
+    end_of(s, apply_chunk(s, n))
+}
+
+// A question about a number: refusal 10 only.
+fn asked_count(s: State, n: usize) -> Count
+    ensures { λ r. ⌜ saidCount r ≡ asked s n ⌝ }
+{
+    if record::is_state(s) {
+        Count::Number(n)
+    } else {
+        Count::Refused(Refusal::StateRecord)
+    }
+}
+
+pub fn input_frames_next(s: State) -> Count
+    ensures { λ r. ⌜ saidCount r ≡ asked s (s .input) ⌝ }
+{
+    asked_count(s, s.input)
+}
+
+pub fn output_frames_next(s: State) -> Count
+    ensures { λ r. ⌜ saidCount r ≡ asked s (s .output) ⌝ }
+{
+    asked_count(s, s.output)
+}
+
+pub fn input_frames_max(s: State) -> Count
+    ensures { λ r. ⌜ saidCount r ≡ asked s (framesOf (maxInputOf s)) ⌝ }
+{
+    asked_count(s, sizes::frames_of(record::max_input_of(s)))
+}
+
+pub fn output_frames_max(s: State) -> Count
+    ensures { λ r. ⌜ saidCount r ≡ asked s (framesOf (maxOutputOf s)) ⌝ }
+{
+    asked_count(s, sizes::frames_of(record::max_output_of(s)))
+}
+
+pub fn nbr_channels(s: State) -> Count
+    ensures { λ r. ⌜ saidCount r ≡ asked s (s .channels) ⌝ }
+{
+    asked_count(s, s.channels)
+}
+
+pub fn output_delay(s: State) -> Count
+    ensures { λ r. ⌜ saidCount r ≡ asked s (framesOf (delayOf (pointsIn s) (s .current))) ⌝ }
+{
+    asked_count(s, sizes::frames_of(sizes::delay_of(record::points_in(s), s.current)))
+}
+
+pub fn resample_ratio(s: State) -> Answer
+    ensures { λ r. ⌜ saidAnswer r ≡ asked s (s .current) ⌝ }
+{
+    if record::is_state(s) {
+        Answer::Value(s.current)
+    } else {
+        Answer::Refused(Refusal::StateRecord)
+    }
+}

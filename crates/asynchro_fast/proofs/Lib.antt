@@ -1,0 +1,3 @@
+-- Laws of the degrees, the rows and the node rule. Assumes nothing.
+pub mod Laws
+pub mod Nodes

@@ -1,0 +1,3 @@
+-- Laws and examples of the blends. Assumes nothing.
+pub mod Constants
+pub mod Examples

@@ -1,0 +1,80 @@
+-- What a double is beside its whole part is a double: the difference is exact. Assumes nothing.
+use mathlib.Core.Bool.{Bool, true, false, _&&_}
+use mathlib.Core.Logic.{inl}
+use mathlib.Core.Path.{_≡_, refl, sym, ap, _∙_, subst}
+use Prim.Native.Nat.{ℕ, zero, suc, _+_, _-_, _*_, _/_, _%_, _^_, _≤_, _<_}
+use native.Mathlib.Nat.{lt-of-not-le, not-le-of-lt, lt-of-le-of-lt, lt-of-lt-of-le, le-of-suc-le-suc, mul-one, mul-assoc, zero-mul, zero-mod, zero-div, mod-le, mod-one, eq-of-mul-eq-mul-right, div-add-mod'}
+use native.Mathlib.Omega.{arith}
+use lib.Dec.{T, leb, ltb, eqb, leb→le, lit<, lit≤}
+use lib.IntN.{ℤ, pos, negsuc}
+use lib.Ieee.{Float, fin, Format, binary64, prec, emax, low, up, down, round, fits}
+use lib.Ieee.Digits.{back}
+use lib.Ieee.Fits.{down-pos, and-l, and-r, reach}
+use lib.Ieee.Scale.{finite, overflow}
+use lib.Pow.{pow-add, pow-pos, pow-lt, pow-mono, shl-lt}
+use Rattle.exact.specs.Doubles.{_-f_}
+use Rattle.exact.specs.Exact.{mag, exact}
+use Rattle.exact.specs.Whole.{Whole, signed, _⊖_, Same}
+use Rattle.exact.proofs.Exact.{mag-exact}
+use Rattle.exact.proofs.Sums.{sub-is, keeps-of}
+use Rattle.whole.specs.Rounded.{wholeF}
+use Rattle.whole.proofs.Held.{digits-lt, next-value}
+use Rattle.whole.proofs.Units.{whole-ones, whole-exact, whole-number}
+
+-- what is left over, r / d, is r * 2 ^ j units with few digits in r
+pub record Few (f : Format) (r d : ℕ) : Type 0 where
+  pub q : ℕ
+  pub j : ℕ
+  pub is : q * 2 ^ j * d ≡ r * 2 ^ low f
+  pub digits : q < 2 ^ prec f
+  pub fine : j ≤ low f
+
+down-le : (f : Format) (s : Bool) (m k : ℕ) → T (fits f (fin s (suc m) (negsuc k))) → suc k ≤ low f
+unfolding fits
+down-le f s m k t =
+    le-of-suc-le-suc (lt-of-not-le (λ (g : suc (low f) ≤ suc k). not-le-of-lt (pow-lt g)
+    (leb→le (2 ^ suc k) (2 ^ low f) (and-r (eqb (suc m % 2) 1 && ltb (suc m) (2 ^ prec f)) (leb (2 ^ suc k) (2 ^ low f))
+    (and-l (eqb (suc m % 2) 1 && ltb (suc m) (2 ^ prec f) && leb (2 ^ suc k) (2 ^ low f)) (ltb (suc m * 1) (2 ^ suc (emax f) * 2 ^ suc k)) t)))))
+
+pub left-few : (f : Format) (s : Bool) (m : ℕ) (e : ℤ) → T (fits f (fin s m e)) → Few f (m * up e % down e) (down e)
+left-few f s zero e t = record { q = 0; j = 0; is = rw (zero-mul (up e), zero-mod (down e)) (omega arith); digits = pow-pos (prec f); fine = omega arith }
+left-few f s (suc m) (pos k) t = record { q = 0; j = 0; is = rw (mod-one (suc m * 2 ^ k)) (omega arith); digits = pow-pos (prec f); fine = omega arith }
+left-few f s (suc m) (negsuc k) t =
+    let r = suc m * 1 % 2 ^ suc k in
+    let j = low f - suc k in
+    record {
+      q = r;
+      j = j;
+      is = mul-assoc r (2 ^ j) (2 ^ suc k) ∙ ap (λ (x : ℕ). r * x) (sym (pow-add 2 j (suc k)) ∙ ap (λ (x : ℕ). 2 ^ x) (back (low f) (suc k) (down-le f s m k t)));
+      digits = lt-of-le-of-lt (mod-le (suc m * 1) (2 ^ suc k)) (rw mul-one (digits-lt f s (suc m) (negsuc k) t));
+      fine = omega arith
+    }
+
+-- M units are n ones and g units
+units-are : (M U a d n r g : ℕ) → 0 < d → M * d ≡ a * U → n * d + r ≡ a → g * d ≡ r * U → M ≡ n * U + g
+units-are M U a d n r g D p q h = eq-of-mul-eq-mul-right d D M (n * U + g) (omega (arith, ap (λ (x : ℕ). x * U) q))
+
+beside : (s : Bool) (M g k : ℕ) → M ≡ k + g → Same (signed s g) (signed s M ⊖ signed s k)
+beside false M g k h = omega arith
+beside true M g k h = omega arith
+
+under-top : (f : Format) (q j : ℕ) → q < 2 ^ prec f → j ≤ low f → q * 2 ^ j < overflow f
+under-top f q j h k = lt-of-lt-of-le (shl-lt (prec f) j h) (pow-mono (small f j k))
+  where
+    small : (f : Format) (j : ℕ) → j ≤ low f → prec f + j ≤ low f + suc (emax f)
+    small f j k = omega (arith, reach f)
+
+pub sub-part : (s : Bool) (m : ℕ) (e : ℤ) → T (fits binary64 (fin s m e))
+    → let x = fin s m e in let y = wholeF s (m * up e / down e) in T (finite (x -f y)) × Same (exact binary64 (x -f y)) (exact binary64 x ⊖ exact binary64 y)
+unfolding exact
+sub-part s m e t =
+    let x = fin s m e in
+    let n = m * up e / down e in
+    let v = next-value binary64 s m e n t (inl refl) in
+    let w = left-few binary64 s m e t in
+    let g = w .q * 2 ^ (w .j) in
+    keeps-of binary64 (x -f wholeF s n) (exact binary64 x ⊖ exact binary64 (wholeF s n)) s (w .q) (w .j)
+    (sub-is binary64 x (wholeF s n) (tt, t) (whole-number s n v))
+    (subst (λ (u : Whole). Same (signed s g) (signed s (mag binary64 x) ⊖ u)) (sym (whole-exact s n v))
+    (beside s (mag binary64 x) g (n * 2 ^ low binary64) (units-are (mag binary64 x) (2 ^ low binary64) (m * up e) (down e) n (m * up e % down e) g (down-pos e) (mag-exact binary64 x t) (div-add-mod' (m * up e) (down e)) (w .is))))
+    (w .digits) (under-top binary64 (w .q) (w .j) (w .digits) (w .fine))

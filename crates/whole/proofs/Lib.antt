@@ -1,0 +1,6 @@
+-- What the code works out is what the definitions say; what these say of numbers. Assumes nothing.
+pub mod Held
+pub mod Divisions
+pub mod Units
+pub mod Sizes
+pub mod Fraction

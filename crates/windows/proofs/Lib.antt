@@ -1,0 +1,2 @@
+-- Laws of the cutoff. Assumes nothing.
+pub mod Rows
