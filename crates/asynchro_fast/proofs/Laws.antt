@@ -9,14 +9,15 @@ use mir.Syntax.{w32}
 use mir.Val.{SFits, ofZ, toZ}
 use mir.ValLaws.{toZ-ofZ}
 use lib.IntN.{ℤ, pos, negsuc}
-use lib.Ieee.{Float}
+use lib.Ieee.{Float, ofInt, ofBits}
 use lib.ListN.{length, getD, drop, drop-of-length-le}
 use lib.Seq.{drop-cons}
-use Rattle.exact.specs.Doubles.{_+f_, _*f_}
+use Rattle.exact.specs.Doubles.{_+f_, _*f_, _/f_, count, oneF}
 use Rattle.asynchro_fast.specs.declared.PolynomialDegree.{PolynomialDegree}
 use Rattle.asynchro_fast.specs.declared.PolynomialDegree.the-variants.{Nearest, Linear, Cubic, Quintic, Septic}
 use Rattle.asynchro_fast.specs.declared.rows.Part.{Part}
 use Rattle.asynchro_fast.specs.Degrees.{pointsOf, beforeOf}
+use Rattle.asynchro_fast.specs.Kernels.{third, sixth}
 use Rattle.asynchro_fast.specs.Rows.{isZero, stepPart, sumFrom, rowSum, horner, kernel}
 
 -- ---- the degrees
@@ -50,6 +51,16 @@ before-half Linear = omega arith
 before-half Cubic = omega arith
 before-half Quintic = omega arith
 before-half Septic = omega arith
+
+-- ---- the doubles that the cubic kernel names by their bits
+
+pub third-is : third ≡ oneF /f count 3
+unfolding ofBits ofInt
+third-is = refl
+
+pub sixth-is : sixth ≡ oneF /f count 6
+unfolding ofBits ofInt
+sixth-is = refl
 
 -- ---- a row's sum, entry by entry
 

@@ -3,14 +3,30 @@ use mathlib.Core.Bool.{Bool, true, false, cond, _&&_}
 use mathlib.Core.List.{List, [], _∷_}
 use Prim.Native.Nat.{ℕ, zero, suc}
 use lib.Dec.{eqb}
-use lib.IntN.{ℤ, pos, negsuc, subℕ, _+ℤ_, _*ℤ_, pow}
-use lib.ListN.{length, getD}
+use lib.IntN.{ℤ, pos, negsuc, subℕ, _+ℤ_, _*ℤ_}
+use lib.ListN.{getD}
 
--- the factor that the sample j has at x: the sum of row[j] * x ^ p, the rows from the highest power p down to 0
-unfoldable pub factorAt : List (List ℤ) → ℕ → ℤ → ℤ
-unfolding pow
-factorAt [] j x = pos 0
-factorAt (r ∷ rs) j x = getD r j (pos 0) *ℤ pow x (length rs) +ℤ factorAt rs j x
+-- what a list of whole numbers has at j
+abbrev pub entry : List ℤ → ℕ → ℤ
+entry r j = getD r j (pos 0)
+
+-- f 0 * ys[0] + f 1 * ys[1] + ..
+unfoldable pub weighted : (ℕ → ℤ) → List ℤ → ℤ
+weighted f [] = pos 0
+weighted f (y ∷ ys) = f 0 *ℤ y +ℤ weighted (λ j. f (suc j)) ys
+
+-- Horner, with the number f gives for each row: that of the next row plus x times what the rows before it gave
+unfoldable pub hornerOn : (List ℤ → ℤ) → ℤ → ℤ → List (List ℤ) → ℤ
+hornerOn f x acc [] = acc
+hornerOn f x acc (r ∷ rs) = hornerOn f x (f r +ℤ x *ℤ acc) rs
+
+-- what the rows give at x on the samples ys: each row's sum, then Horner
+abbrev pub rowsAt : List (List ℤ) → ℤ → List ℤ → ℤ
+rowsAt rows x ys = hornerOn (λ r. weighted (entry r) ys) x (pos 0) rows
+
+-- the factor that the sample number j has in that
+abbrev pub factorAt : List (List ℤ) → ℕ → ℤ → ℤ
+factorAt rows j x = hornerOn (λ r. entry r j) x (pos 0) rows
 
 abbrev pub sameℤ : ℤ → ℤ → Bool
 sameℤ (pos m) (pos n) = eqb m n
@@ -23,9 +39,10 @@ abbrev pub allBelow : ℕ → (ℕ → Bool) → Bool
 allBelow zero f = true
 allBelow (suc n) f = f n && allBelow n f
 
--- the nodes are -before, .., 0, 1, ..; the sample of the node number i has the factor scale at its own node and 0 at the others
+-- the nodes are -before, .., 0, 1, ..: node number i is i - before. A sample has the factor scale at its own node and 0 at the others
 abbrev pub nodeRule : List (List ℤ) → ℕ → ℕ → ℕ → ℕ → Bool
 nodeRule rows before scale i j = sameℤ (factorAt rows j (subℕ i before)) (cond (eqb i j) (pos scale) (pos 0))
 
+-- the rule, as one computed test
 abbrev pub nodesHold : List (List ℤ) → ℕ → ℕ → ℕ → Bool
 nodesHold rows points before scale = allBelow points (λ i. allBelow points (λ j. nodeRule rows before scale i j))

@@ -1,7 +1,8 @@
 -- Bench case 12, and samples on which the two cubics have other bits, both computed. Assumes nothing.
+use mathlib.Core.Bool.{false}
 use mathlib.Core.List.{List, [], _∷_}
 use mathlib.Core.Path.{_≡_, refl}
-use lib.Ieee.{Float, binary64, add, sub, mul, div, neg, ofInt, ofBits}
+use lib.Ieee.{Float, binary64, add, sub, mul, div, neg, eq, ofInt, ofBits}
 use Rattle.exact.specs.Doubles.{_+f_, _-f_, _*f_, count, halfF}
 use Rattle.error.specs.Refusals.{given, unless}
 use Rattle.asynchro_sinc.specs.Blends.{third, sixth, sample, sincCubic, sincQuad, blendSaid}
@@ -35,3 +36,7 @@ powers-at-half = refl
 pub horner-at-half : hornerCubic halfF step ≡ ofBits binary64 0x3fe0_0000_0000_0000
 unfolding add sub mul div neg ofInt ofBits
 horner-at-half = refl
+
+pub cubics-differ : eq (sincCubic halfF step) (hornerCubic halfF step) ≡ false
+unfolding add sub mul div neg eq ofInt ofBits
+cubics-differ = refl

@@ -17,7 +17,7 @@ newOf n w =
       «f_cutoff» = Auto;
       «oversampling_factor» = 128;
       interpolation = Cubic;
-      window = w
+      window = w;
     }
 
 -- 256 points under the squared Blackman-Harris window

@@ -1,21 +1,27 @@
-// The sinc side's small arithmetic: blends of grid points and their weights. The parameter record
-// is in parameters.rt.
-use error::{Answer, Refusal};
+// The sinc side's small arithmetic: the blends of grid points, and what each point counts for in a
+// blend. The parameter record is in parameters.rt.
+use error::Answer;
+use error::Refusal;
 ghost use mathlib.Core.Path.{_≡_};
 ghost use Rattle.error.specs.Refusals.{saidAnswer};
 ghost use Rattle.asynchro_sinc.specs.Blends.{cubicOn, quadOn, linOn, sincCubic, sincQuad, sincLin, blendSaid, cubicWeights, quadWeights, linWeights};
 
 mod parameters;
 
-pub use parameters::{Cutoff, SincInterpolationParameters, SincInterpolationType};
+pub use parameters::Cutoff;
+pub use parameters::SincInterpolationParameters;
+pub use parameters::SincInterpolationType;
 
+// By powers of x: the cubic of the polynomial resampler goes by Horner and has other bits.
 fn cubic_on(x: f64, y0: f64, y1: f64, y2: f64, y3: f64) -> f64
     ensures { λ r. ⌜ r ≡ cubicOn x y0 y1 y2 y3 ⌝ }
 {
+    let third = 1.0 / 3.0;
+    let sixth = 1.0 / 6.0;
     let a0 = y1;
-    let a1 = -(1.0 / 3.0) * y0 - 0.5 * y1 + y2 - 1.0 / 6.0 * y3;
+    let a1 = -third * y0 - 0.5 * y1 + y2 - sixth * y3;
     let a2 = 0.5 * (y0 + y2) - y1;
-    let a3 = 0.5 * (y1 - y2) + 1.0 / 6.0 * (y3 - y0);
+    let a3 = 0.5 * (y1 - y2) + sixth * (y3 - y0);
     let x2 = x * x;
     let x3 = x2 * x;
     a0 + a1 * x + a2 * x2 + a3 * x3
@@ -37,8 +43,7 @@ fn lin_on(x: f64, y0: f64, y1: f64) -> f64
     y0 + x * (y1 - y0)
 }
 
-// The value at x of the cubic polynomial through four samples, at -1, 0, 1 and 2. By powers of x: the
-// cubic of the polynomial resampler goes by Horner and has other bits.
+// The value at x of the cubic polynomial through four samples, at -1, 0, 1 and 2.
 pub fn interp_cubic(x: f64, ys: &[f64]) -> Answer
     ensures { λ r. ⌜ saidAnswer r ≡ blendSaid 4 sincCubic x (now (ys .entry)) ⌝ }
 {
@@ -72,13 +77,15 @@ pub fn interp_lin(x: f64, ys: &[f64]) -> Answer
 pub fn interp_cubic_weights(x: f64) -> [f64; 4]
     ensures { λ r. ⌜ r ≡ cubicWeights x ⌝ }
 {
+    let third = 1.0 / 3.0;
+    let sixth = 1.0 / 6.0;
     let x2 = x * x;
     let x3 = x2 * x;
     [
-        -(1.0 / 3.0) * x + 0.5 * x2 - 1.0 / 6.0 * x3,
+        -third * x + 0.5 * x2 - sixth * x3,
         1.0 - 0.5 * x - x2 + 0.5 * x3,
         x + 0.5 * x2 - 0.5 * x3,
-        -(1.0 / 6.0) * x + 1.0 / 6.0 * x3,
+        -sixth * x + sixth * x3,
     ]
 }
 

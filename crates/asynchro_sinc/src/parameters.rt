@@ -1,4 +1,6 @@
-// The parameters of a sinc interpolation, and the setters that chain.
+// The parameters of a sinc interpolation, and the setters that chain: each hands back the record with
+// one field changed. A setter of a field that is an enum puts the record together anew, since such a
+// field is not stored to by itself.
 use windows::WindowFunction;
 ghost use mathlib.Core.Path.{_≡_};
 ghost use Rattle.asynchro_sinc.specs.Parameters.{newOf, defaultOf, withSincLen, withWindow, withCutoff, withFactor, withInterpolation};
@@ -15,20 +17,25 @@ pub enum SincInterpolationType {
     Nearest,
 }
 
-// The relative cutoff frequency: left to `calculate_cutoff`, or a number.
+// The relative cutoff frequency. The source has an `Option<f32>` here.
 pub enum Cutoff {
+    // Left to `windows::calculate_cutoff`, by the length and the window.
     Auto,
+    // This one.
     At(f32),
 }
 
+// What a sinc interpolation is made from.
 pub struct SincInterpolationParameters {
     // The number of points of the windowed sinc.
     pub sinc_len: usize,
     // The cutoff, relative to half of the lower sample rate.
     pub f_cutoff: Cutoff,
-    // The number of grid points in each sample.
+    // The number of grid points to each sample.
     pub oversampling_factor: usize,
+    // How the value between grid points is found.
     pub interpolation: SincInterpolationType,
+    // The window that shapes the sinc.
     pub window: WindowFunction,
 }
 

@@ -9,17 +9,18 @@ use lib.Dec.{T, leb, ltb, eqb, leb→le, lit<, lit≤}
 use lib.IntN.{ℤ, pos, negsuc}
 use lib.Ieee.{Float, fin, Format, binary64, prec, emax, low, up, down, round, fits}
 use lib.Ieee.Digits.{back}
-use lib.Ieee.Fits.{down-pos, and-l, and-r, reach}
+use lib.Ieee.Fits.{down-pos, and-l, and-r, reach, sub-fits}
 use lib.Ieee.Scale.{finite, overflow}
 use lib.Pow.{pow-add, pow-pos, pow-lt, pow-mono, shl-lt}
 use Rattle.exact.specs.Doubles.{_-f_}
-use Rattle.exact.specs.Exact.{mag, exact}
+use Rattle.exact.specs.Exact.{mag, exact, Number}
+use Rattle.exact.specs.Rounding.{RoundOf}
 use Rattle.exact.specs.Whole.{Whole, signed, _⊖_, Same}
 use Rattle.exact.proofs.Exact.{mag-exact}
 use Rattle.exact.proofs.Sums.{sub-is, keeps-of}
 use Rattle.whole.specs.Rounded.{wholeF}
 use Rattle.whole.proofs.Held.{digits-lt, next-value}
-use Rattle.whole.proofs.Units.{whole-ones, whole-exact, whole-number}
+use Rattle.whole.proofs.Units.{shared, ones-rest, whole-exact, whole-number}
 
 -- what is left over, r / d, is r * 2 ^ j units with few digits in r
 pub record Few (f : Format) (r d : ℕ) : Type 0 where
@@ -50,10 +51,6 @@ left-few f s (suc m) (negsuc k) t =
       fine = omega arith
     }
 
--- M units are n ones and g units
-units-are : (M U a d n r g : ℕ) → 0 < d → M * d ≡ a * U → n * d + r ≡ a → g * d ≡ r * U → M ≡ n * U + g
-units-are M U a d n r g D p q h = eq-of-mul-eq-mul-right d D M (n * U + g) (omega (arith, ap (λ (x : ℕ). x * U) q))
-
 beside : (s : Bool) (M g k : ℕ) → M ≡ k + g → Same (signed s g) (signed s M ⊖ signed s k)
 beside false M g k h = omega arith
 beside true M g k h = omega arith
@@ -65,16 +62,17 @@ under-top f q j h k = lt-of-lt-of-le (shl-lt (prec f) j h) (pow-mono (small f j 
     small f j k = omega (arith, reach f)
 
 pub sub-part : (s : Bool) (m : ℕ) (e : ℤ) → T (fits binary64 (fin s m e))
-    → let x = fin s m e in let y = wholeF s (m * up e / down e) in T (finite (x -f y)) × Same (exact binary64 (x -f y)) (exact binary64 x ⊖ exact binary64 y)
+    → let x = fin s m e in let n = m * up e / down e in Number binary64 (x -f wholeF s n) × Same (exact binary64 (x -f wholeF s n)) (signed s (mag binary64 x) ⊖ signed s (n * 2 ^ low binary64))
 unfolding exact
 sub-part s m e t =
     let x = fin s m e in
     let n = m * up e / down e in
+    let K = n * 2 ^ low binary64 in
     let v = next-value binary64 s m e n t (inl refl) in
     let w = left-few binary64 s m e t in
     let g = w .q * 2 ^ (w .j) in
-    keeps-of binary64 (x -f wholeF s n) (exact binary64 x ⊖ exact binary64 (wholeF s n)) s (w .q) (w .j)
-    (sub-is binary64 x (wholeF s n) (tt, t) (whole-number s n v))
-    (subst (λ (u : Whole). Same (signed s g) (signed s (mag binary64 x) ⊖ u)) (sym (whole-exact s n v))
-    (beside s (mag binary64 x) g (n * 2 ^ low binary64) (units-are (mag binary64 x) (2 ^ low binary64) (m * up e) (down e) n (m * up e % down e) g (down-pos e) (mag-exact binary64 x t) (div-add-mod' (m * up e) (down e)) (w .is))))
-    (w .digits) (under-top binary64 (w .q) (w .j) (w .digits) (w .fine))
+    let r = subst (λ (u : Whole). RoundOf binary64 (x -f wholeF s n) (signed s (mag binary64 x) ⊖ u)) (whole-exact s n v) (sub-is binary64 x (wholeF s n) (tt, t) (whole-number s n v)) in
+    let k = keeps-of binary64 (x -f wholeF s n) (signed s (mag binary64 x) ⊖ signed s K) s (w .q) (w .j) r
+    (beside s (mag binary64 x) g K (ones-rest (shared binary64 s m e t) g (w .is)))
+    (w .digits) (under-top binary64 (w .q) (w .j) (w .digits) (w .fine)) in
+    ((k .0, sub-fits binary64 x (wholeF s n)), k .1)

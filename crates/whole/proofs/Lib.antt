@@ -4,3 +4,7 @@ pub mod Divisions
 pub mod Units
 pub mod Sizes
 pub mod Fraction
+pub mod Signs
+pub mod Values
+pub mod Splits
+pub mod Counts

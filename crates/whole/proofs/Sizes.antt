@@ -1,28 +1,27 @@
 -- What the code works out of an x that is not below 0 is what the definitions say. Assumes nothing.
 use mathlib.Core.Bool.{Bool, true, false, not, _&&_, cond, true≢false, false≢true}
 use mathlib.Core.Logic.{_⊎_, inl, inr}
-use mathlib.Core.Path.{_≡_, refl, sym, ap, _∙_}
+use mathlib.Core.Path.{_≡_, refl, sym, ap, _∙_, subst}
 use Prim.Native.Nat.{ℕ, zero, suc, _+_, _-_, _*_, _/_, _%_, _^_, _≤_, _<_}
 use native.Mathlib.Nat.{zero-lt-suc, lt-irrefl, add-zero, zero-mul, mul-one, zero-mod, zero-div, mul-pos, min-eq-left, div-lt-iff-lt-mul, mul-le-mul-left, div-add-mod'}
 use native.Mathlib.Omega.{arith}
-use borrow.Author.Tests.{ltb-true, ltb-false, lt-ltb, le-ltb, eqb-true, eqb-false, leb-true, leb-false}
+use borrow.Author.Tests.{ltb-true, ltb-false, lt-ltb, le-ltb, eqb-true, eqb-false, leb-true, leb-false, lt-leb}
 use lib.Dec.{T, eqb, leb, ltb, lt→ltb}
 use lib.IntN.{ℤ, pos, negsuc}
-use lib.Ieee.{Float, nan, inf, fin, Format, binary64, prec, low, up, down, round, fits, neg, sum, add, sub, lt, le, ofInt, ofBits, toUnsigned}
+use lib.Ieee.{Float, nan, inf, fin, Format, binary64, prec, low, up, down, round, fits, neg, sum, add, sub, lt, eq, le, ofInt, ofBits, toUnsigned}
 use lib.Ieee.Exact.{HasValue}
-use lib.Ieee.Fits.{up-pos, down-pos}
+use lib.Ieee.Fits.{up-pos, down-pos, sub-fits}
 use lib.Ieee.Scale.{round-same}
 use lib.Pow.{pow-pos}
 use Rattle.exact.specs.Doubles.{count, zeroF, oneF, halfF, _+f_, _-f_}
 use Rattle.exact.specs.Exact.{mag, exact, Number}
 use Rattle.exact.specs.Whole.{Whole, signed, _⊖_, Same, Less, AtMost}
-use Rattle.exact.proofs.Exact.{mag-exact}
 use Rattle.exact.proofs.Order.{lt-exact, le-exact}
 use Rattle.whole.specs.Rounded.{wholeF, madeWhole, partDiv, overDiv, nearDiv, truncOf, ceilOf, roundOf}
 use Rattle.whole.proofs.Held.{few, whole-back, next-value, wholeF-value}
 use Rattle.whole.proofs.Divisions.{near-is}
 use Rattle.whole.proofs.Fraction.{sub-part}
-use Rattle.whole.proofs.Units.{ones-le, ones-lt, under-half, half-or-more, whole-exact, whole-number}
+use Rattle.whole.proofs.Units.{shared, ones-le, ones-lt, half-under, half-over, whole-exact, whole-number}
 
 -- 2 ^ 52, the code's 4503599627370496.0
 abbrev pub flatF : Float
@@ -143,28 +142,42 @@ pub below-size : (m : ℕ) (e : ℤ) → T (fits binary64 (fin false m e)) → 0
 unfolding exact
 below-size m e t h =
     let n = m * up e / down e in
-    let M = mag binary64 (fin false m e) in
     let v = next-value binary64 false m e n t (inl refl) in
     lt-exact binary64 (count n) (fin false m e) (whole-number false n v) (tt, t) .1
-    (rw (whole-exact false n v)
-    (plain-lt (n * 2 ^ low binary64) M
-    (ones-lt M (2 ^ low binary64) (m * up e) (down e) n (m * up e % down e) (down-pos e) (mag-exact binary64 (fin false m e) t) (div-add-mod' (m * up e) (down e)) h (pow-pos (low binary64)))))
+    (rw (whole-exact false n v) (plain (n * 2 ^ low binary64) (mag binary64 (fin false m e)) (ones-lt (shared binary64 false m e t) h)))
   where
-    plain-lt : (a b : ℕ) → a < b → Less (a, 0) (b, 0)
-    plain-lt a b h = omega arith
+    plain : (a b : ℕ) → a < b → Less (a, 0) (b, 0)
+    plain a b h = omega arith
 
--- w is what M units are beside K of them, and H is half of U
-half-under : (s : Bool) (H U M K : ℕ) (w : Whole) → H * 2 ≡ U → K ≤ M → 2 * M < U + 2 * K → Same w (signed s M ⊖ signed s K) → AtMost (H, 0) w → ⊥
-half-under false H U M K w e l h k a = omega arith
-half-under true H U M K w e l h k a = omega arith
-
-half-over : (H U M K : ℕ) (w : Whole) → H * 2 ≡ U → U + 2 * K ≤ 2 * M → Same w ((M, 0) ⊖ (K, 0)) → AtMost (H, 0) w
-half-over H U M K w e h k = omega arith
-
--- a half is a number, and twice it is one
 half-number : Number binary64 halfF
 unfolding ofBits fits
 half-number = (tt, tt)
+
+-- w is what M units are beside K of them, and H is half of U
+less-than-half : (s : Bool) (H U M K : ℕ) (w : Whole) → H * 2 ≡ U → K ≤ M → 2 * M < U + 2 * K → Same w (signed s M ⊖ signed s K) → AtMost (H, 0) w → ⊥
+less-than-half false H U M K w e l h k a = omega arith
+less-than-half true H U M K w e l h k a = omega arith
+
+pub half-not : (s : Bool) (m : ℕ) (e : ℤ) → T (fits binary64 (fin s m e)) → 2 * (m * up e % down e) < down e → T (le halfF (fin s m e -f wholeF s (m * up e / down e))) → ⊥
+unfolding exact ofBits
+half-not s m e t l h =
+    let z = fin s m e -f wholeF s (m * up e / down e) in
+    let w = sub-part s m e t in
+    let o = shared binary64 s m e t in
+    less-than-half s (mag binary64 (fin false 1 (negsuc 0))) (2 ^ low binary64) (mag binary64 (fin s m e)) (m * up e / down e * 2 ^ low binary64) (exact binary64 z) refl
+    (ones-le o) (half-under o l) (w .1) (le-exact binary64 halfF z half-number (w .0) .0 h)
+
+half-at-least : (H U M K : ℕ) (w : Whole) → H * 2 ≡ U → U + 2 * K ≤ 2 * M → Same w ((M, 0) ⊖ (K, 0)) → AtMost (H, 0) w
+half-at-least H U M K w e h k = omega arith
+
+pub half-yes : (m : ℕ) (e : ℤ) → T (fits binary64 (fin false m e)) → down e ≤ 2 * (m * up e % down e) → T (le halfF (fin false m e -f count (m * up e / down e)))
+unfolding exact ofBits
+half-yes m e t l =
+    let z = fin false m e -f count (m * up e / down e) in
+    let w = sub-part false m e t in
+    le-exact binary64 halfF z half-number (w .0) .1
+    (half-at-least (mag binary64 (fin false 1 (negsuc 0))) (2 ^ low binary64) (mag binary64 (fin false m e)) (m * up e / down e * 2 ^ low binary64) (exact binary64 z) refl
+    (half-over (shared binary64 false m e t) l) (w .1))
 
 -- y is the whole part of x
 module _ (x y : Float) (t : T (fits binary64 x)) (p : lt x zeroF ≡ false) (i : y ≡ truncOf x) where
@@ -202,7 +215,7 @@ module _ (x y : Float) (t : T (fits binary64 x)) (p : lt x zeroF ≡ false) (i :
       go (minus-zero e) t h = refl
 
   pub near-more : le halfF (x -f y) ≡ true → y +f oneF ≡ roundOf x
-  unfolding madeWhole
+  unfolding madeWhole sub add le lt eq ofBits
   near-more h = ap (λ (z : Float). z +f oneF) i ∙ go (not-below x p) t (sym (ap (λ (z : Float). le halfF (x -f z)) i) ∙ h)
     where
       size : (m : ℕ) (e : ℤ) → T (fits binary64 (fin false m e)) → le halfF (fin false m e -f count (m * up e / down e)) ≡ true
@@ -211,11 +224,10 @@ module _ (x y : Float) (t : T (fits binary64 x)) (p : lt x zeroF ≡ false) (i :
       size m e t h false k = absurd (half-not false m e t (leb-false _ _ k) (given _ h))
 
       go : {x : Float} → NotBelow x → T (fits binary64 x) → le halfF (x -f truncOf x) ≡ true → truncOf x +f oneF ≡ roundOf x
-      unfolding sub add
       go no-number t h = absurd (false≢true h)
       go endless t h = absurd (false≢true h)
       go (a-size m e) t h = rw (near-is (m * up e) (down e) (down-pos e)) (size m e t h (leb (down e) (2 * (m * up e % down e))) refl)
-      go (minus-zero e) t h = absurd (half-not true zero e t ? (given _ h))
+      go (minus-zero e) t h = absurd (half-not true zero e t (rw (no-left zero e (zero-mul (up e))) (down-pos e)) (given _ h))
 
   pub near-same : le halfF (x -f y) ≡ false → y ≡ roundOf x
   unfolding madeWhole
@@ -230,4 +242,4 @@ module _ (x y : Float) (t : T (fits binary64 x)) (p : lt x zeroF ≡ false) (i :
       go no-number t h = refl
       go endless t h = refl
       go (a-size m e) t h = rw (near-is (m * up e) (down e) (down-pos e)) (size m e t h (leb (down e) (2 * (m * up e % down e))) refl)
-      go (minus-zero e) t h = ?
+      go (minus-zero e) t h = rw (near-is (zero * up e) (down e) (down-pos e), no-left zero e (zero-mul (up e)), lt-leb (down e) 0 (down-pos e))

@@ -1,40 +1,60 @@
 -- A double and the whole numbers next to it, in units of 2 ^ -1074: a / d is M of U units to the one. Assumes nothing.
-use mathlib.Core.Bool.{Bool, true, false}
+use mathlib.Core.Bool.{Bool, false}
 use mathlib.Core.Path.{_≡_, sym, ap, _∙_}
-use Prim.Native.Nat.{ℕ, zero, suc, _+_, _-_, _*_, _/_, _%_, _^_, _≤_, _<_}
-use native.Mathlib.Nat.{mul-one, mul-right-comm, mul-assoc, lt-irrefl, lt-of-not-le, not-le-of-lt, lt-of-le-of-lt, le-of-suc-le-suc, mod-le, mod-one, pow-succ', eq-of-mul-eq-mul-right, lt-of-mul-lt-mul-right, le-of-mul-le-mul-right, mul-lt-mul-of-pos-right, mul-le-mul-right, div-add-mod', mod-lt}
+use Prim.Native.Nat.{ℕ, _+_, _*_, _/_, _%_, _^_, _≤_, _<_}
+use native.Mathlib.Nat.{mul-one, mul-right-comm, mod-lt, div-add-mod', eq-of-mul-eq-mul-right, lt-of-mul-lt-mul-right, le-of-mul-le-mul-right, mul-lt-mul-of-pos-right, mul-le-mul-right}
 use native.Mathlib.Omega.{arith}
-use lib.Dec.{T, leb, ltb, eqb, leb→le, lit<, lit≤}
-use lib.IntN.{ℤ, pos, negsuc}
-use lib.Ieee.{Float, nan, inf, fin, Format, binary64, prec, emax, low, up, down, round, fits}
+use lib.Dec.{T}
+use lib.IntN.{ℤ}
+use lib.Ieee.{Float, nan, inf, fin, Format, binary64, low, up, down, round, fits}
 use lib.Ieee.Exact.{HasValue}
 use lib.Ieee.Fits.{down-pos}
 use lib.Pow.{pow-pos}
-use Rattle.exact.specs.Whole.{Whole, signed}
+use Rattle.exact.specs.Whole.{signed}
 use Rattle.exact.specs.Exact.{mag, exact, Number}
 use Rattle.exact.proofs.Exact.{mag-exact, exact-of, finite-of}
 use Rattle.whole.specs.Rounded.{wholeF}
-use Rattle.whole.proofs.Held.{Next, next-value, wholeF-value, wholeF-fits}
+use Rattle.whole.proofs.Held.{wholeF-value, wholeF-fits}
 
--- ---- M units of which U make one are a / d, and r is left over beside n ones
-module _ (M U a d n r : ℕ) (D : 0 < d) (p : M * d ≡ a * U) (q : n * d + r ≡ a) where
+-- ---- M units of which U make one are a / d, and that is n ones with r / d left over
+pub record Shared (M U a d n r : ℕ) : Type 0 where
+  pub some : 0 < d
+  pub one : 0 < U
+  pub is : M * d ≡ a * U
+  pub parts : n * d + r ≡ a
+  pub left : r < d
+
+pub shared : (f : Format) (s : Bool) (m : ℕ) (e : ℤ) → T (fits f (fin s m e)) → Shared (mag f (fin s m e)) (2 ^ low f) (m * up e) (down e) (m * up e / down e) (m * up e % down e)
+shared f s m e t =
+    record {
+      some = down-pos e;
+      one = pow-pos (low f);
+      is = mag-exact f (fin s m e) t;
+      parts = div-add-mod' (m * up e) (down e);
+      left = mod-lt (m * up e) (down-pos e)
+    }
+
+module _ {M U a d n r : ℕ} (o : Shared M U a d n r) where
+  scaled : n * d * U + r * U ≡ M * d
+  scaled = omega (arith, ap (λ (x : ℕ). x * U) (o .parts))
+
   pub ones-le : n * U ≤ M
-  ones-le = le-of-mul-le-mul-right (omega (arith, ap (λ (x : ℕ). x * U) q)) D
+  ones-le = le-of-mul-le-mul-right (omega (arith, scaled)) (o .some)
 
-  pub ones-lt : 0 < r → 0 < U → n * U < M
-  ones-lt R P = lt-of-mul-lt-mul-right d (omega (arith, ap (λ (x : ℕ). x * U) q, mul-lt-mul-of-pos-right R P))
+  pub ones-lt : 0 < r → n * U < M
+  ones-lt h = lt-of-mul-lt-mul-right d (omega (arith, scaled, mul-lt-mul-of-pos-right h (o .one)))
 
-  pub under-next : r < d → 0 < U → M < n * U + U
-  under-next R P = lt-of-mul-lt-mul-right d (omega (arith, ap (λ (x : ℕ). x * U) q, mul-lt-mul-of-pos-right R P))
+  pub ones-next : M < n * U + U
+  ones-next = lt-of-mul-lt-mul-right d (omega (arith, scaled, mul-lt-mul-of-pos-right (o .left) (o .one)))
 
-  pub whole-ones : r ≡ 0 → M ≡ n * U
-  whole-ones R = eq-of-mul-eq-mul-right d D M (n * U) (omega (arith, ap (λ (x : ℕ). x * U) q, ap (λ (x : ℕ). x * U) R))
+  pub ones-rest : (g : ℕ) → g * d ≡ r * U → M ≡ n * U + g
+  ones-rest g h = eq-of-mul-eq-mul-right d (o .some) M (n * U + g) (omega (arith, scaled))
 
-  pub half-or-more : d ≤ 2 * r → U + 2 * (n * U) ≤ 2 * M
-  half-or-more R = le-of-mul-le-mul-right (omega (arith, ap (λ (x : ℕ). x * U) q, mul-le-mul-right U R)) D
+  pub half-over : d ≤ 2 * r → U + 2 * (n * U) ≤ 2 * M
+  half-over h = le-of-mul-le-mul-right (omega (arith, scaled, mul-le-mul-right U h)) (o .some)
 
-  pub under-half : 2 * r < d → 0 < U → 2 * M < U + 2 * (n * U)
-  under-half R P = lt-of-mul-lt-mul-right d (omega (arith, ap (λ (x : ℕ). x * U) q, mul-lt-mul-of-pos-right R P))
+  pub half-under : 2 * r < d → 2 * M < U + 2 * (n * U)
+  half-under h = lt-of-mul-lt-mul-right d (omega (arith, scaled, mul-lt-mul-of-pos-right h (o .one)))
 
 -- ---- the exact value of a whole number
 whole-units : (f : Format) (x : Float) (s : Bool) (n : ℕ) → HasValue x s n 1 → HasValue x s (n * 2 ^ low f) (2 ^ low f)

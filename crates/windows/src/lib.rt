@@ -1,5 +1,6 @@
 // The window kinds, and the cutoff that suits a window at a number of points.
-use error::{Answer, Refusal};
+use error::Answer;
+use error::Refusal;
 ghost use mathlib.Core.Path.{_≡_};
 ghost use mathlib.Core.Bool.{_&&_};
 ghost use mathlib.Core.List.{[]};

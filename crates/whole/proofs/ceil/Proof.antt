@@ -1,24 +1,19 @@
+-- `whole::ceil` meets its contract. Assumes nothing.
 use borrow.Author.Needs.{needs}
+use mathlib.Core.Path.{_∙_}
+use Rattle.whole.proofs.Signs.{size-of, put-back, floor-size, floor-neg}
 use Rattle.whole.proofs.ceil.Statement.{statement}
 use Rattle.whole.proofs.ceil.Tie as tie
-use Rattle.whole.proofs.ceil.Reads as reads
-use Rattle.whole.proofs.ceil.Lts as lts
-use Rattle.whole.proofs.over.Reads as over-reads
-use Rattle.whole.proofs.part.Reads as part-reads
 
--- src/lib.rt:72:17
 part-requires : tie.Need-part-requires
-part-requires c κs = ?
+part-requires c κs = size-of _ (c .if1 .taken)
 
--- src/lib.rt:72:9
 returns : tie.Need-returns
-returns c = ?
+returns c = put-back _ _ (c .part .ensures ∙ floor-size _ (size-of _ (c .before .if1 .taken)) ∙ floor-neg _)
 
--- src/lib.rt:74:5
 over-requires : tie.Need-over-requires
 over-requires c κs = search needs
 
--- src/lib.rt:68:1
 returns-2 : tie.Need-returns-2
 returns-2 c = search needs
 

@@ -1,26 +1,21 @@
+-- `whole::floor` meets its contract. Assumes nothing.
 use borrow.Author.Needs.{needs}
+use mathlib.Core.Path.{_∙_}
+use Rattle.whole.proofs.Signs.{size-of, put-back, ceil-neg, floor-size}
 use Rattle.whole.proofs.floor.Statement.{statement}
 use Rattle.whole.proofs.floor.Tie as tie
-use Rattle.whole.proofs.floor.Reads as reads
-use Rattle.whole.proofs.floor.Lts as lts
-use Rattle.whole.proofs.over.Reads as over-reads
-use Rattle.whole.proofs.part.Reads as part-reads
 
--- src/lib.rt:62:17
 over-requires : tie.Need-over-requires
-over-requires c κs = ?
+over-requires c κs = size-of _ (c .if1 .taken)
 
--- src/lib.rt:62:9
 returns : tie.Need-returns
-returns c = ?
+returns c = put-back _ _ (c .over .ensures ∙ ceil-neg _)
 
--- src/lib.rt:64:5
 part-requires : tie.Need-part-requires
 part-requires c κs = search needs
 
--- src/lib.rt:58:1
 returns-2 : tie.Need-returns-2
-returns-2 c = ?
+returns-2 c = c .part .ensures ∙ floor-size _ (c .before .if1 .left)
 
 pub floor-spec : {M : Type 1} → statement M
 floor-spec = tie.close (tie.spec over-requires returns part-requires returns-2)

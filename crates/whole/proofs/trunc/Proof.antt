@@ -1,23 +1,19 @@
+-- `whole::trunc` meets its contract. Assumes nothing.
 use borrow.Author.Needs.{needs}
+use mathlib.Core.Path.{_∙_}
+use Rattle.whole.proofs.Signs.{size-of, put-back, trunc-neg}
 use Rattle.whole.proofs.trunc.Statement.{statement}
 use Rattle.whole.proofs.trunc.Tie as tie
-use Rattle.whole.proofs.trunc.Reads as reads
-use Rattle.whole.proofs.trunc.Lts as lts
-use Rattle.whole.proofs.part.Reads as part-reads
 
--- src/lib.rt:82:17
 part-requires : tie.Need-part-requires
-part-requires c κs = ?
+part-requires c κs = size-of _ (c .if1 .taken)
 
--- src/lib.rt:82:9
 returns : tie.Need-returns
-returns c = ?
+returns c = put-back _ _ (c .part .ensures ∙ trunc-neg _)
 
--- src/lib.rt:84:5
 part-requires-2 : tie.Need-part-requires-2
 part-requires-2 c κs = search needs
 
--- src/lib.rt:78:1
 returns-2 : tie.Need-returns-2
 returns-2 c = search needs
 

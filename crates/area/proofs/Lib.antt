@@ -1,0 +1,5 @@
+-- Laws of lent areas. Assumes nothing.
+pub mod Pasted
+pub mod Parts
+pub mod Parted
+pub mod Moves

@@ -1,0 +1,44 @@
+-- Document 01, "Block run", 4: the frames of one channel, and of all. Definitions only.
+use mathlib.Core.List.{List, [], _∷_, _++_}
+use Prim.Native.Nat.{ℕ, zero, suc}
+use lib.Ieee.{Float}
+use lib.ListN.{take, drop, set}
+use lib.Seq.{paste}
+use Rattle.exact.specs.Doubles.{zeroF}
+use Rattle.asynchro_fast.specs.declared.PolynomialDegree.{PolynomialDegree}
+use Rattle.asynchro_fast.specs.Degrees.{pointsOf}
+use Rattle.asynchro_fast.specs.Kernels.{interpOf}
+use Rattle.area.specs.Parts.{partOf, eachPart}
+use Rattle.area.specs.Mask.{isOn, whereOn}
+use Rattle.frames.specs.declared.Moment.{Moment}
+use Rattle.frames.specs.declared.Place.{Place}
+use Rattle.frames.specs.declared.Place.the-variants.{At, Out}
+use Rattle.frames.specs.Path.{pathAt}
+use Rattle.frames.specs.Places.{placeFrom, placeOf, shiftOf, lastOf}
+
+-- a frame's value: the kernel on its L neighbours; out of reach 0.0, where no accepted block comes
+unfoldable pub valueAt : PolynomialDegree → List Float → Place → Float
+unfolding interpOf
+valueAt degree work (At s x) = interpOf degree x (take (pointsOf degree) (drop s work))
+valueAt degree work Out = zeroF
+
+-- the first n frames of one channel, whose working area is `work`
+unfoldable pub framesTo : PolynomialDegree → ℕ → List Float → Float → Float → Float → ℕ → List Float
+unfolding valueAt placeFrom pathAt
+framesTo degree needed work t d i zero = []
+framesTo degree needed work t d i (suc f) =
+    framesTo degree needed work t d i f ++ (valueAt degree work (placeOf (shiftOf degree) (lastOf degree needed) (pathAt t d i (suc f) .index)) ∷ [])
+
+-- one frame, with its place p, at place k of channel c's share of the output, and of every channel's
+abbrev pub wroteIn : PolynomialDegree → ℕ → List Float → ℕ → Place → ℕ → ℕ → List Float → List Float
+wroteIn degree mask work stride p k c o = whereOn (isOn mask c) (set o k (valueAt degree (partOf stride c work) p)) o
+
+abbrev pub wroteAll : PolynomialDegree → ℕ → List Float → ℕ → Place → ℕ → ℕ → ℕ → List Float → List Float
+wroteAll degree mask work stride p k share channels = eachPart (wroteIn degree mask work stride p k) share channels
+
+-- channel c's share of the output: its n frames from place `at` on; a switched-off channel's share stays
+abbrev pub ranIn : PolynomialDegree → ℕ → ℕ → List Float → ℕ → Float → Float → Float → ℕ → ℕ → ℕ → List Float → List Float
+ranIn degree needed mask work stride t d i n at c o = whereOn (isOn mask c) (paste o at (framesTo degree needed (partOf stride c work) t d i n) n) o
+
+abbrev pub ranAll : PolynomialDegree → ℕ → ℕ → List Float → ℕ → Float → Float → Float → ℕ → ℕ → ℕ → ℕ → List Float → List Float
+ranAll degree needed mask work stride t d i n at share channels = eachPart (ranIn degree needed mask work stride t d i n at) share channels

@@ -1,0 +1,1 @@
+// Demand 3: definitions in specs/, the proof in proofs/. No function.

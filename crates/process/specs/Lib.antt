@@ -1,0 +1,2 @@
+-- The block run and reset. Definitions only.
+pub mod Block
