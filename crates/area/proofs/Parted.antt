@@ -6,7 +6,7 @@ use native.Mathlib.Nat.{zero-mul, suc-mul}
 use native.Mathlib.Numerals.{add-one}
 use native.Mathlib.Omega.{arith}
 use lib.ListN.{length, take, drop, length-append, length-drop}
-use lib.Seq.{length-take-le, take-at, drop-at, drop-drop}
+use lib.Seq.{length-take-le, take-at, drop-at, drop-drop, take-add}
 use Rattle.area.specs.Parts.{partOf, partsTo, eachPart, onePart}
 
 -- w is w₀ with its first c parts made anew
@@ -44,16 +44,25 @@ pub parted-done : {A : Type 0} (g : ℕ → List A → List A) (share : ℕ) (w�
 unfolding eachPart
 parted-done g share w₀ w c n p e = rw (← e) (p .is)
 
--- a part that is lent as `w[a..a + share]`
+-- a part that is lent as `w[a..a + share]`, and one of it from the place `at` on, `w[a + at..a + share]`
 pub lent-is : {A : Type 0} (a share : ℕ) (w : List A) → take (a + share - a) (drop a w) ≡ take share (drop a w)
 lent-is a share w = let k : a + share - a ≡ share = omega arith in rw k
 
 pub lent-long : {A : Type 0} (a share : ℕ) (w : List A) → a + share ≤ length w → length (take (a + share - a) (drop a w)) ≡ share
 lent-long a share w h = rw lent-is (length-take-le share (drop a w) (simp length-drop (omega arith)))
 
+pub lent-from : {A : Type 0} (a share at : ℕ) (w : List A) → a + share ≤ length w → at ≤ share
+    → take (a + share - (a + at)) (drop (a + at) w) ≡ drop at (take share (drop a w))
+lent-from a share at w h l =
+    let k : a + share - (a + at) ≡ share - at = omega arith in
+    let m : share ≡ at + (share - at) = omega arith in
+    let f : length (take at (drop a w)) ≡ at = length-take-le at (drop a w) (simp length-drop (omega arith)) in
+    rw (k, ← drop-drop) (sym (ap (λ (n : ℕ). drop at (take n (drop a w))) m ∙ ap (drop at) (take-add at (share - at) (drop a w))
+        ∙ drop-at (take at (drop a w)) (take (share - at) (drop at (drop a w))) at f))
+
 -- the area once the part is given back
-pub given-back : {A : Type 0} (g : ℕ → List A → List A) (share c : ℕ) (w ys : List A) → ys ≡ g c (partOf share c w)
+pub given-back : {A : Type 0} (g : ℕ → List A → List A) (share c : ℕ) (w ys : List A) → ys ≡ g c (take (c * share + share - c * share) (drop (c * share) w))
     → take (c * share) w ++ (ys ++ drop (c * share + share - c * share) (drop (c * share) w)) ≡ onePart g share c w
 given-back g share c w ys e =
     let k : c * share + share - c * share ≡ share = omega arith in
-    rw (k, drop-drop, e, append-assoc)
+    rw (e, k, drop-drop, append-assoc)

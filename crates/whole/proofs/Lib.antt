@@ -8,3 +8,4 @@ pub mod Signs
 pub mod Values
 pub mod Splits
 pub mod Counts
+pub mod Examples

@@ -1,4 +1,11 @@
+-- `area::load_part` meets its contract: what `load_channel` makes of the part that is lent, from the input that is lent. Assumes nothing.
 use borrow.Author.Needs.{needs}
+use denote.Ref.{now}
+use Prim.Native.Nat.{_*_}
+use native.Mathlib.Omega.{arith}
+use Rattle.area.specs.Moves.{loadedIn}
+use Rattle.area.proofs.Moves.{loadedIn-is}
+use Rattle.area.proofs.Parted.{lent-from, given-back}
 use Rattle.area.proofs.load_part.Statement.{statement}
 use Rattle.area.proofs.load_part.Tie as tie
 use Rattle.area.proofs.load_part.Reads as reads
@@ -72,7 +79,12 @@ same-length c = search needs
 
 -- src/lib.rt:46:1
 returns : tie.Need-returns
-returns c = ?
+returns c = 
+    let s = c .before .before .before .before .before .before .before .before in
+    given-back (loadedIn _ _ _ _ _ _ _) (s .args .stride) (s .args .c) (now (s .args .work)) _
+    (loadedIn-is (s .args .mask) _ (now (s .args .input)) (s .args .share) (s .args .at) _ _ (s .args .c) _ _ _ _ (c .before .before .before .before .before .is-on .ensures)
+    (lent-from (s .args .c * s .args .share) (s .args .share) (s .args .at) (now (s .args .input)) (omega arith) (omega arith))
+    (c .before .before .load-channel .ensures))
 
 pub load-part-spec : {M : Type 1} → statement M
 load-part-spec =

@@ -1,4 +1,9 @@
+-- `area::move_part` meets its contract: what `move_channel` makes of the part that is lent. Assumes nothing.
 use borrow.Author.Needs.{needs}
+use denote.Ref.{now}
+use Rattle.area.specs.Moves.{movedIn}
+use Rattle.area.proofs.Moves.{movedIn-is}
+use Rattle.area.proofs.Parted.{given-back}
 use Rattle.area.proofs.move_part.Statement.{statement}
 use Rattle.area.proofs.move_part.Tie as tie
 use Rattle.area.proofs.move_part.Reads as reads
@@ -44,7 +49,9 @@ same-length c = search needs
 
 -- src/lib.rt:17:1
 returns : tie.Need-returns
-returns c = ?
+returns c = 
+    let s = c .before .before .before .before .before .before in
+    given-back (movedIn _ _ _) (s .args .stride) (s .args .c) (now (s .args .work)) _ (movedIn-is (s .args .mask) _ _ (s .args .c) _ _ _ (c .before .before .before .before .is-on .ensures) (c .before .before .move-channel .ensures))
 
 pub move-part-spec : {M : Type 1} → statement M
 move-part-spec =

@@ -1,4 +1,6 @@
+-- `area::channel::load` meets its contract: the copy, then the zeros. Assumes nothing.
 use borrow.Author.Needs.{needs}
+use Rattle.area.proofs.Moves.{loaded-is}
 use Rattle.area.proofs.channel.load.Statement.{statement}
 use Rattle.area.proofs.channel.load.Tie as tie
 use Rattle.area.proofs.channel.load.Reads as reads
@@ -28,7 +30,7 @@ same-length c = search needs
 
 -- src/channel.rt:42:1
 returns : tie.Need-returns
-returns c = ?
+returns c = loaded-is _ _ _ _ _ _ _ (c .before .before .before .before .before .before .copy-in .ensures) (c .before .before .zero-from .ensures)
 
 pub load-spec : {M : Type 1} → statement M
 load-spec =

@@ -1,3 +1,4 @@
+-- `area::channel::move_channel` meets its contract. Assumes nothing.
 use borrow.Author.Needs.{needs}
 use Rattle.area.proofs.channel.move_channel.Statement.{statement}
 use Rattle.area.proofs.channel.move_channel.Tie as tie
@@ -15,7 +16,7 @@ same-length c = search needs
 
 -- src/channel.rt:52:1
 returns : tie.Need-returns
-returns c = ?
+returns c = rw (c .before .before .before .before .if1 .taken) (c .before .before .move-front .ensures)
 
 -- src/channel.rt:52:1
 returns-2 : tie.Need-returns-2

@@ -1,3 +1,4 @@
+-- `area::channel::put` meets its contract. Assumes nothing.
 use borrow.Author.Needs.{needs}
 use Rattle.area.proofs.channel.put.Statement.{statement}
 use Rattle.area.proofs.channel.put.Tie as tie
@@ -18,7 +19,7 @@ same-length c = search needs
 
 -- src/channel.rt:80:1
 returns : tie.Need-returns
-returns c = ?
+returns c = rw (c .if1 .taken)
 
 -- src/channel.rt:80:1
 returns-2 : tie.Need-returns-2
