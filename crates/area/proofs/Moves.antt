@@ -1,12 +1,13 @@
 -- Moving and reading: lengths, and what stands where after them. Assumes nothing.
-use mathlib.Core.Path.{_≡_}
+use mathlib.Core.Path.{_≡_, _∙_}
 use mathlib.Core.Bool.{Bool, true, false}
 use mathlib.Core.List.{List, _++_}
 use Prim.Native.Nat.{ℕ, _+_, _-_, _*_, _≤_, _<_}
+use native.Mathlib.Nat.{zero-add}
 use native.Mathlib.Omega.{arith}
 use lib.Ieee.{Float}
-use lib.ListN.{length, take, drop, replicate, length-drop, length-replicate}
-use lib.Seq.{paste, length-paste, take-paste, drop-paste}
+use lib.ListN.{length, getD, take, drop, replicate, length-append, length-drop, length-replicate, List·getD-append, getD-replicate}
+use lib.Seq.{paste, length-paste-head, take-paste, drop-paste, length-take-le, take-all, take-at, drop-at, drop-drop, getD-take, getD-append-add}
 use Rattle.exact.specs.Doubles.{zeroF}
 use Rattle.area.specs.Parts.{partOf}
 use Rattle.area.specs.Mask.{isOn, whereOn}
@@ -19,10 +20,6 @@ pub loaded-is : (l2 : ℕ) (input : List Float) (read needed : ℕ) (w w₁ w₂
 unfolding loaded
 loaded-is l2 input read needed w w₁ w₂ a b = rw (b, a)
 
-pub moved-long : (fill l2 : ℕ) (w : List Float) → fill + l2 ≤ length w → length (moved fill l2 w) ≡ length w
-unfolding moved
-moved-long fill l2 w h = length-paste w 0 (drop fill w) l2 (omega arith) (simp length-drop (omega arith))
-
 -- the channel's own test of the mask
 pub movedIn-is : (mask fill l2 c : ℕ) (on : Bool) (p ys : List Float) → on ≡ isOn mask c → ys ≡ whereOn on (moved fill l2 p) p → ys ≡ movedIn mask fill l2 c p
 movedIn-is mask fill l2 c on p ys u e = rw (← u) e
@@ -30,3 +27,70 @@ movedIn-is mask fill l2 c on p ys u e = rw (← u) e
 pub loadedIn-is : (mask l2 : ℕ) (input : List Float) (share at read needed c : ℕ) (on : Bool) (q p ys : List Float)
     → on ≡ isOn mask c → q ≡ drop at (partOf share c input) → ys ≡ whereOn on (loaded l2 q read needed p) p → ys ≡ loadedIn mask l2 input share at read needed c p
 loadedIn-is mask l2 input share at read needed c on q p ys u v e = rw (← u, ← v) e
+
+behind : {A : Type 0} (p q : List A) (n k : ℕ) (z : A) → length p ≡ n → getD (p ++ q) (n + k) z ≡ getD q k z
+behind p q n k z e = rw (← e) (getD-append-add p q k z)
+
+-- the move: at the front what stood at fill, and the rest stays
+module _ (fill l2 : ℕ) (w : List Float) where
+  pub moved-parts : moved fill l2 w ≡ take l2 (drop fill w) ++ drop l2 w
+  unfolding moved
+  moved-parts = rw zero-add
+
+  module _ (fits : fill + l2 ≤ length w) where
+    front-long : length (take l2 (drop fill w)) ≡ l2
+    front-long = length-take-le l2 (drop fill w) (simp length-drop (omega arith))
+
+    pub moved-long : length (moved fill l2 w) ≡ length w
+    moved-long = rw moved-parts (simp (length-append, length-drop) (omega (arith, front-long)))
+
+    pub moved-front : take l2 (moved fill l2 w) ≡ take l2 (drop fill w)
+    moved-front = rw moved-parts (take-at (take l2 (drop fill w)) (drop l2 w) l2 front-long)
+
+    pub moved-rest : drop l2 (moved fill l2 w) ≡ drop l2 w
+    moved-rest = rw moved-parts (drop-at (take l2 (drop fill w)) (drop l2 w) l2 front-long)
+
+-- the reading: the front stays, then what was read, then zeros, and the rest stays
+module _ (l2 : ℕ) (input : List Float) (read needed : ℕ) (w : List Float) (fits : l2 + needed ≤ length w) (short : read ≤ needed) (has : read ≤ length input) where
+  pub loaded-parts : loaded l2 input read needed w ≡ take l2 w ++ take read input ++ replicate (needed - read) zeroF ++ drop (l2 + needed) w
+  unfolding loaded
+  loaded-parts =
+      let k : l2 + read + (needed - read) ≡ l2 + needed = omega arith in
+      let z : take (needed - read) (replicate (needed - read) zeroF) ≡ replicate (needed - read) zeroF = take-all _ _ (rw length-replicate (omega arith)) in
+      rw (take-paste w l2 input read (omega arith) has, z, ← drop-drop, drop-paste w l2 input read (omega arith) has, drop-drop, k)
+
+  read-long : length (take l2 w ++ take read input) ≡ l2 + read
+  read-long = length-paste-head w l2 input read (omega arith) has
+
+  full-long : length (take l2 w ++ take read input ++ replicate (needed - read) zeroF) ≡ l2 + needed
+  full-long = rw (length-append, length-replicate) (omega (arith, read-long))
+
+  pub loaded-long : length (loaded l2 input read needed w) ≡ length w
+  loaded-long = rw (loaded-parts, length-append, length-drop) (omega (arith, full-long))
+
+  pub loaded-front : take (l2 + needed) (loaded l2 input read needed w) ≡ take l2 w ++ take read input ++ replicate (needed - read) zeroF
+  loaded-front = rw loaded-parts (take-at (take l2 w ++ take read input ++ replicate (needed - read) zeroF) (drop (l2 + needed) w) (l2 + needed) full-long)
+
+  pub loaded-rest : drop (l2 + needed) (loaded l2 input read needed w) ≡ drop (l2 + needed) w
+  loaded-rest = rw loaded-parts (drop-at (take l2 w ++ take read input ++ replicate (needed - read) zeroF) (drop (l2 + needed) w) (l2 + needed) full-long)
+
+-- in each channel the length stays
+where-long : (on : Bool) (a b : List Float) (n : ℕ) → length a ≡ n → length b ≡ n → length (whereOn on a b) ≡ n
+where-long true a b n e f = e
+where-long false a b n e f = f
+
+pub movedIn-keeps : (mask fill l2 stride n : ℕ) → fill + l2 ≤ stride → Keeps (movedIn mask fill l2) stride n
+movedIn-keeps mask fill l2 stride n fits c l p e = where-long (isOn mask c) (moved fill l2 p) p stride (moved-long fill l2 p (omega arith) ∙ e) e
+
+pub loadedIn-keeps : (mask l2 : ℕ) (input : List Float) (share at read needed stride n : ℕ) → n * share ≤ length input → at + read ≤ share → read ≤ needed → l2 + needed ≤ stride
+    → Keeps (loadedIn mask l2 input share at read needed) stride n
+loadedIn-keeps mask l2 input share at read needed stride n room share-fits short fits c l p e =
+    let k : length (partOf share c input) ≡ share = part-long share n c input room l in
+    let has : read ≤ length (drop at (partOf share c input)) = rw length-drop (omega (arith, k)) in
+    where-long (isOn mask c) (loaded l2 (drop at (partOf share c input)) read needed p) p stride
+    (loaded-long l2 (drop at (partOf share c input)) read needed p (omega arith) short has ∙ e) e
+
+-- a channel's reading depends on nothing of the input but its share
+pub loadedIn-apart : (mask l2 : ℕ) (x y : List Float) (share at read needed c : ℕ) (p : List Float)
+    → partOf share c x ≡ partOf share c y → loadedIn mask l2 x share at read needed c p ≡ loadedIn mask l2 y share at read needed c p
+loadedIn-apart mask l2 x y share at read needed c p e = rw e

@@ -1,12 +1,12 @@
 -- Loops that copy into an area, one store a turn. Assumes nothing.
 use mathlib.Core.Path.{_≡_, refl, sym, ap, _∙_}
-use mathlib.Core.List.{List}
+use mathlib.Core.List.{List, append-nil}
 use Prim.Native.Nat.{ℕ, _+_, _<_}
 use native.Mathlib.Nat.{zero-add}
 use native.Mathlib.Numerals.{add-one}
 use native.Mathlib.Omega.{arith}
 use lib.ListN.{length, getD, take, drop, set, replicate, length-set, length-drop, length-replicate, getD-replicate}
-use lib.Seq.{paste, paste-zero, paste-suc, length-take-le, getD-append-add, getD-drop}
+use lib.Seq.{paste, paste-zero, paste-suc, length-take-le, take-all, drop-length, getD-append-add, getD-drop}
 
 -- w is w₀ with the first k of s from place at on
 pub record Pasted {A : Type 0} (w₀ : List A) (at : ℕ) (s w : List A) (k : ℕ) : Type 0 where
@@ -45,3 +45,7 @@ moved-next w₀ f w k z p h =
 pub filled-next : {A : Type 0} (w₀ : List A) (at n : ℕ) (w : List A) (k : ℕ) (v : A)
     → Pasted w₀ at (replicate n v) w k → at + k < length w₀ → k < n → Pasted w₀ at (replicate n v) (set w (at + k) v) (k + 1)
 filled-next w₀ at n w k v p h l = pasted-next w₀ at (replicate n v) w k v v p h (rw length-replicate l) (sym (getD-replicate n k v v l))
+
+pub filled-whole : {A : Type 0} (w w′ : List A) (v : A) → w′ ≡ paste w 0 (replicate (length w) v) (length w) → w′ ≡ replicate (length w) v
+filled-whole w w′ v e =
+    rw (e, zero-add, drop-length, append-nil) (take-all (length w) (replicate (length w) v) (rw length-replicate (omega arith)))

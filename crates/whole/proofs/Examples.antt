@@ -51,7 +51,7 @@ round-minus-two-half : roundOf (bits 0xc004_0000_0000_0000) ≡ bits 0xc008_0000
 unfolding madeWhole ofInt ofBits neg
 round-minus-two-half = refl
 
-round-before-half : roundOf (bits 0x3fdf_ffff_ffff_ffff) ≡ bits 0x3ff0_0000_0000_0000
+round-before-half : roundOf (bits 0x3fdf_ffff_ffff_ffff) ≡ bits 0
 unfolding madeWhole ofInt ofBits
 round-before-half = refl
 

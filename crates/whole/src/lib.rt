@@ -1,9 +1,8 @@
 // Whole numbers out of doubles: floor, ceiling, truncation and round half away from zero for every
 // bit pattern, and `split`, the one way to the whole part and the fraction of an index.
 //
-// A sign is dealt with once, in the four public functions: of a negative x the size -x goes to
-// `part`, `over` or `near`, and the sign is put back. So a zero keeps its sign, and so does a
-// number that goes to zero.
+// The public functions deal with the sign: of a negative x the size -x goes to `part`, `over` or
+// `near`, and the sign is put back. So a zero keeps its sign, and a number that goes to zero too.
 ghost use mathlib.Core.Path.{_≡_};
 ghost use mathlib.Core.Bool.{false};
 ghost use lib.Ieee.{lt};
@@ -68,10 +67,7 @@ pub fn floor(x: f64) -> f64
 pub fn ceil(x: f64) -> f64
     ensures { λ r. ⌜ r ≡ ceilOf x ⌝ }
 {
-    if x < 0.0 {
-        return -part(-x);
-    }
-    over(x)
+    -floor(-x)
 }
 
 // x without its fraction: toward zero.

@@ -79,11 +79,12 @@ same-length c = search needs
 
 -- src/lib.rt:46:1
 returns : tie.Need-returns
-returns c = 
+returns c =
     let s = c .before .before .before .before .before .before .before .before in
-    given-back (loadedIn _ _ _ _ _ _ _) (s .args .stride) (s .args .c) (now (s .args .work)) _
-    (loadedIn-is (s .args .mask) _ (now (s .args .input)) (s .args .share) (s .args .at) _ _ (s .args .c) _ _ _ _ (c .before .before .before .before .before .is-on .ensures)
-    (lent-from (s .args .c * s .args .share) (s .args .share) (s .args .at) (now (s .args .input)) (omega arith) (omega arith))
+    let a = s .args in
+    given-back (loadedIn (a .mask) (a .l2) (now (a .input)) (a .share) (a .at) (a .read) (a .needed)) (a .stride) (a .c) (now (a .work)) _
+    (loadedIn-is (a .mask) (a .l2) (now (a .input)) (a .share) (a .at) (a .read) (a .needed) (a .c) _ _ _ _ (c .before .before .before .before .before .is-on .ensures)
+    (lent-from (a .c * a .share) (a .share) (a .at) (now (a .input)) (omega arith) (omega arith))
     (c .before .before .load-channel .ensures))
 
 pub load-part-spec : {M : Type 1} → statement M

@@ -1,4 +1,8 @@
+-- `area::zero_all` meets its contract: zeros from the place 0, as many as there are samples. Assumes nothing.
 use borrow.Author.Needs.{needs}
+use denote.Ref.{now}
+use Rattle.exact.specs.Doubles.{zeroF}
+use Rattle.area.proofs.Pasted.{filled-whole}
 use Rattle.area.proofs.zero_all.Statement.{statement}
 use Rattle.area.proofs.zero_all.Tie as tie
 use Rattle.area.proofs.zero_all.Reads as reads
@@ -15,7 +19,7 @@ same-length c = search needs
 
 -- src/lib.rt:100:1
 returns : tie.Need-returns
-returns c = ?
+returns c = filled-whole (now (c .before .before .before .before .before .args .work)) _ zeroF (c .before .before .zero-from .ensures)
 
 pub zero-all-spec : {M : Type 1} → statement M
 zero-all-spec = tie.close (tie.spec zero-from-requires same-length returns)
