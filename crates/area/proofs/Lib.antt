@@ -2,4 +2,5 @@
 pub mod Pasted
 pub mod Parts
 pub mod Parted
+pub mod Switched
 pub mod Moves

@@ -25,8 +25,8 @@ pub pasted-done : {A : Type 0} (w₀ : List A) (at : ℕ) (s w : List A) (k n : 
 pasted-done w₀ at s w k n p e = rw (← e) (p .is)
 
 -- the move to the front: what is read has not been written yet
-pub moved-get : {A : Type 0} (w₀ : List A) (f k : ℕ) (z : A) → f + k < length w₀ → getD (paste w₀ 0 (drop f w₀) k) (f + k) z ≡ getD (drop f w₀) k z
-moved-get w₀ f k z h =
+unwritten : {A : Type 0} (w₀ : List A) (f k : ℕ) (z : A) → f + k < length w₀ → getD (paste w₀ 0 (drop f w₀) k) (f + k) z ≡ getD (drop f w₀) k z
+unwritten w₀ f k z h =
     let l : length (take k (drop f w₀)) ≡ k = length-take-le k (drop f w₀) (simp length-drop (omega arith)) in
     let e : f + k ≡ length (take k (drop f w₀)) + f = omega arith in
     let o : 0 + k + f ≡ f + k = omega arith in
@@ -36,7 +36,7 @@ moved-get w₀ f k z h =
 pub moved-next : {A : Type 0} (w₀ : List A) (f : ℕ) (w : List A) (k : ℕ) (z : A)
     → Pasted w₀ 0 (drop f w₀) w k → f + k < length w₀ → Pasted w₀ 0 (drop f w₀) (set w k (getD w (f + k) z)) (k + 1)
 moved-next w₀ f w k z p h =
-    let e : getD w (f + k) z ≡ getD (drop f w₀) k z = rw (p .is) (moved-get w₀ f k z h) in
+    let e : getD w (f + k) z ≡ getD (drop f w₀) k z = rw (p .is) (unwritten w₀ f k z h) in
     let q : Pasted w₀ 0 (drop f w₀) (set w (0 + k) (getD w (f + k) z)) (k + 1) =
     pasted-next w₀ 0 (drop f w₀) w k (getD w (f + k) z) z p (omega arith) (simp length-drop (omega arith)) e in
     rw zero-add at q

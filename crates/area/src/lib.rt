@@ -59,14 +59,14 @@ fn load_part(
     requires { ⌜ (at + read ≤ share) × (read ≤ needed) × (l2 + needed ≤ stride) ⌝ }
     ensures { λ _. ⌜ now (work .exit) ≡ onePart (loadedIn mask l2 (now (input .entry)) share at read needed) stride c (now (work .entry)) ⌝ }
 {
-    let a = c * stride;
-    let b = c * share;
+    let to = c * stride;
+    let from = c * share;
     let on = is_on(mask, c);
     load_channel(
         on,
-        &mut work[a..a + stride],
+        &mut work[to..to + stride],
         l2,
-        &input[b + at..b + share],
+        &input[from + at..from + share],
         read,
         needed,
     );

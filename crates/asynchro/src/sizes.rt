@@ -42,11 +42,11 @@ pub fn size_of(x: f64) -> Size
     ensures { λ r. ⌜ r ≡ sizeOf x ⌝ }
 {
     if x < 131072.0 {
-        if x > 0.0 {
-            let n = std::num::truncating_f64_to_u64(x);
-            return size_of_count(n as usize);
+        if x < 0.0 {
+            return Size::Frames(0);
         }
-        return Size::Frames(0);
+        let n = std::num::truncating_f64_to_u64(x);
+        return size_of_count(n as usize);
     }
     Size::TooLarge
 }

@@ -1,1 +1,2 @@
--- In the making.
+-- The points of the grid. Definitions only.
+pub mod Grid

@@ -1,7 +1,7 @@
 -- Worked examples, by bit pattern: the sign of a zero, what goes to zero, halves, the fraction 1.0, and what is no number. Assumes nothing.
 use mathlib.Core.Path.{_≡_, refl}
 use Prim.Native.Nat.{ℕ}
-use lib.Ieee.{Float, nan, inf, binary64, neg, sub, ofInt, ofBits}
+use lib.Ieee.{Float, nan, binary64, neg, sub, ofInt, ofBits}
 use Rattle.whole.specs.Rounded.{madeWhole, floorOf, ceilOf, truncOf, roundOf, splitOf}
 use Rattle.whole.specs.declared.Parts.{Parts}
 

@@ -3,20 +3,19 @@ use mathlib.Core.Bool.{Bool, true, false, _&&_}
 use mathlib.Core.Logic.{inl}
 use mathlib.Core.Path.{_≡_, refl, sym, ap, _∙_, subst}
 use Prim.Native.Nat.{ℕ, zero, suc, _+_, _-_, _*_, _/_, _%_, _^_, _≤_, _<_}
-use native.Mathlib.Nat.{lt-of-not-le, not-le-of-lt, lt-of-le-of-lt, lt-of-lt-of-le, le-of-suc-le-suc, mul-one, mul-assoc, zero-mul, zero-mod, zero-div, mod-le, mod-one, eq-of-mul-eq-mul-right, div-add-mod'}
+use native.Mathlib.Nat.{lt-of-not-le, not-le-of-lt, lt-of-le-of-lt, lt-of-lt-of-le, le-of-suc-le-suc, mul-one, mul-assoc, zero-mul, zero-mod, mod-le, mod-one}
 use native.Mathlib.Omega.{arith}
-use lib.Dec.{T, leb, ltb, eqb, leb→le, lit<, lit≤}
+use lib.Dec.{T, leb, ltb, eqb, leb→le}
 use lib.IntN.{ℤ, pos, negsuc}
-use lib.Ieee.{Float, fin, Format, binary64, prec, emax, low, up, down, round, fits}
+use lib.Ieee.{fin, Format, binary64, prec, emax, low, up, down, fits}
 use lib.Ieee.Digits.{back}
-use lib.Ieee.Fits.{down-pos, and-l, and-r, reach, sub-fits}
-use lib.Ieee.Scale.{finite, overflow}
+use lib.Ieee.Fits.{and-l, and-r, reach, sub-fits}
+use lib.Ieee.Scale.{overflow}
 use lib.Pow.{pow-add, pow-pos, pow-lt, pow-mono, shl-lt}
 use Rattle.exact.specs.Doubles.{_-f_}
 use Rattle.exact.specs.Exact.{mag, exact, Number}
 use Rattle.exact.specs.Rounding.{RoundOf}
 use Rattle.exact.specs.Whole.{Whole, signed, _⊖_, Same}
-use Rattle.exact.proofs.Exact.{mag-exact}
 use Rattle.exact.proofs.Sums.{sub-is, keeps-of}
 use Rattle.whole.specs.Rounded.{wholeF}
 use Rattle.whole.proofs.Held.{digits-lt, next-value}

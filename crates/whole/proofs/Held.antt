@@ -1,7 +1,7 @@
 -- A double that fits is a whole number, or it is a fraction whose numerator the format holds. So the whole numbers next to it are doubles. Assumes nothing.
-use mathlib.Core.Bool.{Bool, true, false, not, _&&_, cond}
+use mathlib.Core.Bool.{Bool, true, false, not, _&&_}
 use mathlib.Core.Logic.{_⊎_, inl, inr}
-use mathlib.Core.Path.{_≡_, refl, sym, ap, _∙_}
+use mathlib.Core.Path.{_≡_, refl, ap, _∙_}
 use Prim.Native.Nat.{ℕ, zero, suc, _+_, _*_, _/_, _%_, _^_, _≤_, _<_}
 use native.Mathlib.Nat.{zero-lt-suc, le-trans, le-of-lt, lt-of-le-of-lt, mul-pos, zero-mul, mul-one, mul-assoc, mul-lt-mul-of-pos-right, add-comm, mod-one, div-one, div-le-self, div-add-mod', lt-irrefl}
 use native.Mathlib.Omega.{arith}

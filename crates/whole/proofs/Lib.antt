@@ -4,8 +4,11 @@ pub mod Divisions
 pub mod Units
 pub mod Sizes
 pub mod Fraction
+pub mod Steps
 pub mod Signs
 pub mod Values
 pub mod Splits
 pub mod Counts
+pub mod Casts
+pub mod Sums
 pub mod Examples

@@ -1,14 +1,13 @@
 -- The sign of x: the floor of -x is minus the ceiling of x, and truncation and rounding take the sign along. Assumes nothing.
-use mathlib.Core.Bool.{Bool, true, false, not, cond, true≢false, false≢true}
+use mathlib.Core.Bool.{Bool, true, false, not, cond, false≢true}
 use mathlib.Core.Path.{_≡_, refl, sym, ap, _∙_}
 use Prim.Native.Nat.{ℕ, _*_, _<_}
 use native.Mathlib.Nat.{zero-mul, zero-mod}
 use native.Mathlib.Omega.{arith}
 use borrow.Author.Tests.{ltb-true, le-ltb}
-use lib.IntN.{ℤ}
 use lib.Ieee.{Float, nan, inf, fin, up, down, neg, lt, ofBits}
 use Rattle.exact.specs.Doubles.{count, zeroF}
-use Rattle.whole.specs.Rounded.{wholeF, madeWhole, partDiv, overDiv, nearDiv, floorOf, ceilOf, truncOf, roundOf}
+use Rattle.whole.specs.Rounded.{wholeF, madeWhole, partDiv, overDiv, floorOf, ceilOf, truncOf, roundOf}
 use Rattle.whole.proofs.Sizes.{NotBelow, no-number, endless, a-size, minus-zero, not-below}
 
 pub neg-neg : (x : Float) → neg (neg x) ≡ x
@@ -19,7 +18,7 @@ neg-neg (inf false) = refl
 neg-neg (fin true m e) = refl
 neg-neg (fin false m e) = refl
 
-wholeF-neg : (s : Bool) (n : ℕ) → wholeF (not s) n ≡ neg (wholeF s n)
+pub wholeF-neg : (s : Bool) (n : ℕ) → wholeF (not s) n ≡ neg (wholeF s n)
 wholeF-neg true n = sym (neg-neg (count n))
 wholeF-neg false n = refl
 

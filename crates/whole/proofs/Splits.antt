@@ -1,21 +1,21 @@
 -- The fraction that `split` gives is from 0 to 1, both among them; above 0 it is exact. Assumes nothing.
-use mathlib.Core.Bool.{Bool, true, false}
+use mathlib.Core.Bool.{true, false}
 use mathlib.Core.Logic.{inl}
 use mathlib.Core.Path.{_≡_, refl, sym, ap, _∙_, subst}
-use Prim.Native.Nat.{ℕ, suc, _+_, _*_, _/_, _^_, _≤_, _<_}
-use native.Mathlib.Nat.{mul-one, one-mul, zero-lt-suc, mul-pos}
+use Prim.Native.Nat.{ℕ, suc, _+_, _*_, _/_, _^_}
+use native.Mathlib.Nat.{one-mul, zero-lt-suc}
 use native.Mathlib.Omega.{arith}
-use lib.Dec.{T, lit≤, lit<}
-use lib.Ieee.{Float, nan, inf, fin, Format, binary64, prec, low, emax, up, down, round, fits, le, lt, sub}
+use lib.Dec.{T, lit≤}
+use lib.Ieee.{Float, nan, inf, fin, Format, binary64, prec, low, emax, up, down, round, le, lt}
 use lib.Ieee.Back.{round-whole}
 use lib.Ieee.Fits.{round-fits}
 use lib.Ieee.Order.{round-mono}
 use lib.Ieee.Scale.{finite, grid}
 use lib.Pow.{pow-pos}
-use Rattle.exact.specs.Doubles.{zeroF, oneF, _-f_}
-use Rattle.exact.specs.Whole.{Whole, signed, _⊕_, _⊖_, _⊙_, Same, Less, AtMost, Below, Within}
+use Rattle.exact.specs.Doubles.{zeroF, _-f_}
+use Rattle.exact.specs.Whole.{Whole, signed, _⊖_, Same, Less, AtMost, Below}
 use Rattle.exact.specs.Exact.{mag, exact, Number}
-use Rattle.exact.specs.Rounding.{slack, Rounds, RoundOf}
+use Rattle.exact.specs.Rounding.{RoundOf}
 use Rattle.exact.proofs.Exact.{finite-of}
 use Rattle.exact.proofs.Sums.{sub-is, near-of, keeps-of}
 use Rattle.exact.proofs.Order.{le-exact}

@@ -47,6 +47,9 @@ module _ {M U a d n r : ℕ} (o : Shared M U a d n r) where
   pub ones-next : M < n * U + U
   ones-next = lt-of-mul-lt-mul-right d (omega (arith, scaled, mul-lt-mul-of-pos-right (o .left) (o .one)))
 
+  pub ones-under : (b : ℕ) → M < b * U → a < b * d
+  ones-under b h = lt-of-mul-lt-mul-right U (omega (arith, mul-lt-mul-of-pos-right h (o .some)))
+
   pub ones-rest : (g : ℕ) → g * d ≡ r * U → M ≡ n * U + g
   ones-rest g h = eq-of-mul-eq-mul-right d (o .some) M (n * U + g) (omega (arith, scaled))
 

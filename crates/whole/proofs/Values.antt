@@ -1,20 +1,18 @@
 -- What floor, ceiling, truncation and rounding say of numbers, by exact values; each is exact. Assumes nothing.
 use mathlib.Core.Bool.{Bool, true, false, cond}
-use mathlib.Core.Logic.{inl, inr}
-use mathlib.Core.Path.{_≡_, refl, sym, ap, _∙_, subst}
+use mathlib.Core.Path.{_≡_, refl, sym, subst}
 use Prim.Native.Nat.{ℕ, suc, _+_, _*_, _/_, _%_, _^_, _≤_, _<_}
 use native.Mathlib.Nat.{lt-of-mul-lt-mul-left, mul-le-mul-left}
 use native.Mathlib.Omega.{arith}
 use borrow.Author.Tests.{eqb-true, eqb-false, leb-true, leb-false}
 use lib.Dec.{T, eqb, leb}
 use lib.IntN.{ℤ}
-use lib.Ieee.{Float, nan, inf, fin, binary64, low, up, down, round, fits}
-use lib.Ieee.Exact.{HasValue}
+use lib.Ieee.{Float, nan, inf, fin, binary64, low, up, down, fits}
 use lib.Ieee.Fits.{down-pos}
-use Rattle.exact.specs.Whole.{Whole, signed, _⊕_, _⊙_, Same, Less, AtMost, Below}
+use Rattle.exact.specs.Whole.{Whole, signed, _⊕_, _⊙_, Same, Less, AtMost}
 use Rattle.exact.specs.Exact.{mag, exact, Number}
 use Rattle.whole.specs.Rounded.{wholeF, madeWhole, partDiv, overDiv, nearDiv, floorOf, ceilOf, truncOf, roundOf}
-use Rattle.whole.specs.Numbers.{Ones, Greatest, Least, Toward, Nearest}
+use Rattle.whole.specs.Numbers.{Greatest, Least, Toward, Nearest}
 use Rattle.whole.proofs.Held.{Next, next-value}
 use Rattle.whole.proofs.Divisions.{near-is, part-next, over-next, near-next}
 use Rattle.whole.proofs.Units.{Shared, shared, ones-le, ones-lt, ones-next, ones-rest, half-over, half-under, whole-exact, whole-number}

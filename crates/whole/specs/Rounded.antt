@@ -3,7 +3,6 @@
 use mathlib.Core.Bool.{Bool, cond}
 use Prim.Native.Nat.{ℕ, suc, _+_, _*_, _/_, _%_}
 use lib.Dec.{eqb}
-use lib.IntN.{ℤ}
 use lib.Ieee.{Float, nan, inf, fin, up, down, neg}
 use Rattle.exact.specs.Doubles.{count, _-f_}
 use Rattle.whole.specs.declared.Parts.{Parts}

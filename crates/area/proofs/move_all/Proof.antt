@@ -9,9 +9,6 @@ use Rattle.area.proofs.Parts.{room}
 use Rattle.area.proofs.Parted.{Parted, parted-none, parted-next, parted-done}
 use Rattle.area.proofs.move_all.Statement.{statement}
 use Rattle.area.proofs.move_all.Tie as tie
-use Rattle.area.proofs.move_all.Reads as reads
-use Rattle.area.proofs.move_all.Lts as lts
-use Rattle.area.proofs.move_part.Reads as move-part-reads
 
 abbrev Inv-loop : tie.InvT-loop
 Inv-loop work₀ stride channels mask fill l2 c₀ work c = (c ≤ channels) × Parted (movedIn mask fill l2) stride work₀ work c
@@ -23,7 +20,7 @@ loop-holds : tie.Need-loop-holds Inv-loop μ-loop
 loop-holds c = (omega arith, parted-none _ _ _)
 
 move-part-requires : tie.Need-move-part-requires Inv-loop μ-loop
-move-part-requires c κs = 
+move-part-requires c κs =
     let s = c .before .before .before .before in
     let l = c .before .before .loop in
     omega (arith, room (l .c) (s .args .channels) (s .args .stride) (length (l .work)) (omega arith) (omega arith))
@@ -35,7 +32,7 @@ loop-less : tie.Need-loop-less Inv-loop μ-loop
 loop-less c = search needs
 
 loop-again : tie.Need-loop-again Inv-loop μ-loop
-loop-again c = 
+loop-again c =
     let s = c .before .before .before .before .before .before .before in
     let l = c .before .before .before .before .before .loop in
     let f = c .before .before .move-part in

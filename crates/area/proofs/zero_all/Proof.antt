@@ -5,19 +5,13 @@ use Rattle.exact.specs.Doubles.{zeroF}
 use Rattle.area.proofs.Pasted.{filled-whole}
 use Rattle.area.proofs.zero_all.Statement.{statement}
 use Rattle.area.proofs.zero_all.Tie as tie
-use Rattle.area.proofs.zero_all.Reads as reads
-use Rattle.area.proofs.zero_all.Lts as lts
-use Rattle.area.proofs.channel.zero_from.Reads as zero-from-reads
 
--- src/lib.rt:104:5
 zero-from-requires : tie.Need-zero-from-requires
 zero-from-requires c κs = search needs
 
--- src/lib.rt:100:1
 same-length : tie.Need-same-length
 same-length c = search needs
 
--- src/lib.rt:100:1
 returns : tie.Need-returns
 returns c = filled-whole (now (c .before .before .before .before .before .args .work)) _ zeroF (c .before .before .zero-from .ensures)
 

@@ -3,32 +3,22 @@ use borrow.Author.Needs.{needs}
 use Rattle.area.proofs.Moves.{loaded-is}
 use Rattle.area.proofs.channel.load.Statement.{statement}
 use Rattle.area.proofs.channel.load.Tie as tie
-use Rattle.area.proofs.channel.load.Reads as reads
-use Rattle.area.proofs.channel.load.Lts as lts
-use Rattle.area.proofs.channel.copy_in.Reads as copy-in-reads
-use Rattle.area.proofs.channel.zero_from.Reads as zero-from-reads
 
--- src/channel.rt:47:5
 copy-in-requires : tie.Need-copy-in-requires
 copy-in-requires c κs = search needs
 
--- src/channel.rt:48:21
 add-zero-from : tie.Need-add-zero-from
 add-zero-from c = search needs
 
--- src/channel.rt:48:32
 sub-zero-from : tie.Need-sub-zero-from
 sub-zero-from c = search needs
 
--- src/channel.rt:48:5
 zero-from-requires : tie.Need-zero-from-requires
 zero-from-requires c κs = search needs
 
--- src/channel.rt:42:1
 same-length : tie.Need-same-length
 same-length c = search needs
 
--- src/channel.rt:42:1
 returns : tie.Need-returns
 returns c = loaded-is _ _ _ _ _ _ _ (c .before .before .before .before .before .before .copy-in .ensures) (c .before .before .zero-from .ensures)
 

@@ -2,26 +2,19 @@
 use borrow.Author.Needs.{needs}
 use Rattle.area.proofs.channel.put.Statement.{statement}
 use Rattle.area.proofs.channel.put.Tie as tie
-use Rattle.area.proofs.channel.put.Reads as reads
-use Rattle.area.proofs.channel.put.Lts as lts
 
--- src/channel.rt:85:9
 mul-part : tie.Need-mul-part
 mul-part c = search needs
 
--- src/channel.rt:85:9
 slice-write-part : tie.Need-slice-write-part
 slice-write-part c = search needs
 
--- src/channel.rt:80:1
 same-length : tie.Need-same-length
 same-length c = search needs
 
--- src/channel.rt:80:1
 returns : tie.Need-returns
 returns c = rw (c .if1 .taken)
 
--- src/channel.rt:80:1
 returns-2 : tie.Need-returns-2
 returns-2 c = search needs
 

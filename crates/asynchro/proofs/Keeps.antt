@@ -1,0 +1,157 @@
+-- What an accepted call leaves passes the StateRecord test. Assumes nothing.
+use mathlib.Core.Bool.{Bool, true, false, cond, _&&_, false≢true}
+use mathlib.Core.List.{List}
+use mathlib.Core.Path.{_≡_, refl, sym, ap, _∙_, subst}
+use Prim.Native.Nat.{ℕ, _≤_, zero-le}
+use native.Mathlib.Nat.{le-refl, le-trans}
+use native.Mathlib.Omega.{arith}
+use borrow.Author.Tests.{leb-true, le-leb, eq-eqb}
+use lib.Dec.{leb, lit≤}
+use lib.Ieee.{Float}
+use Rattle.exact.specs.Doubles.{aboveZero, atLeastOne, _*f_, _/f_}
+use Rattle.error.specs.Refusals.{Said, given, refused, unless}
+use Rattle.asynchro_fast.specs.declared.PolynomialDegree.{PolynomialDegree}
+use Rattle.asynchro_fast.specs.Degrees.{pointsOf}
+use Rattle.asynchro.specs.declared.sizes.FixedAsync.{FixedAsync}
+use Rattle.asynchro.specs.declared.sizes.FixedAsync.the-variants.{Input, Output}
+use Rattle.asynchro.specs.declared.sizes.Size.{Size}
+use Rattle.asynchro.specs.declared.sizes.Size.the-variants.{Frames, TooLarge}
+use Rattle.asynchro.specs.declared.record.State.{State}
+use Rattle.asynchro.specs.Bounds.{isRatio, isChannels, isChunk, isSize, isIndex}
+use Rattle.asynchro.specs.Sizes.{sized, sizeOfCount, maxInput, maxOutput, isFrames, framesOf, sizeIs, sizeHolds}
+use Rattle.asynchro.specs.Record.{inputOf, outputOf, maxInputOf, maxOutputOf, countsHold, ratiosHold, maximaHold, isState, withSizes, updateLengths}
+use Rattle.asynchro.specs.Calls.{endOf, freshState, withFill, filled, firstLengths, construct, relativeHolds, withRatio, applied, setRatio, setRelative, withChunk, chunked, setChunk}
+use Rattle.asynchro.proofs.Points.{points-few}
+use Rattle.asynchro.proofs.Start.{start-inside}
+use Rattle.asynchro.proofs.Valid.{both, join, Ready, Needed, tests, passes, valid}
+
+-- a ladder that gives passed its test, and went on
+pub accepted : {A : Type 0} (b : Bool) (n : ℕ) (vs : List Float) (next : Said A) (a : A) → unless b n vs next ≡ given a → (b ≡ true) × (next ≡ given a)
+unfolding unless
+accepted true n vs next a e = (refl, e)
+accepted false n vs next a e = absurd (let z : _≡_ {A = ℕ} 0 1 = cc in omega arith)
+
+same-given : {A : Type 0} (a b : A) → given a ≡ given b → a ≡ b
+same-given a b e = cc
+
+-- a size that was worked out is the number that is written down
+own-size : (z : Size) → isFrames z ≡ true → sizeIs z (framesOf z) ≡ true
+own-size (Frames n) h = eq-eqb n n refl
+own-size TooLarge h = h
+
+-- ---- one law for every call: all of the test but the needed sizes, which the call's end works out
+pub update-keeps : (s t : State) → Ready s → updateLengths s ≡ given t → isState t ≡ true
+unfolding updateLengths
+update-keeps s t r e =
+    let a = accepted (isFrames (inputOf s)) _ _ _ t e in
+    let b = accepted (isFrames (outputOf s)) _ _ _ t (a .1) in
+    let c = accepted (sizeHolds (maxInputOf s) (framesOf (inputOf s))) _ _ _ t (b .1) in
+    let z = withSizes s (framesOf (inputOf s)) (framesOf (outputOf s)) in
+    let ready : Ready z = record { counts = r .counts; ratios = r .ratios; maxima = r .maxima; fill = r .fill; index = r .index } in
+    let needed : Needed z = record { input = own-size (inputOf s) (a .0); output = own-size (outputOf s) (b .0); input-most = c .0 } in
+    subst (λ (y : State). isState y ≡ true) (same-given z t (c .1)) (passes z ready needed)
+
+-- a call that ends so keeps the test: on a refusal the record is the one given
+pub end-keeps : (s : State) (d : Said State) → isState s ≡ true → ((t : State) → d ≡ given t → isState t ≡ true) → isState (endOf s d .state) ≡ true
+end-keeps s (given t) h k = k t refl
+end-keeps s (refused n vs) h k = h
+
+-- ---- settings
+ratio-ready : (s : State) (r : Float) (ramp : Bool) → isState s ≡ true → isRatio r ≡ true → Ready (withRatio s r ramp)
+ratio-ready s r ramp h k =
+    let v = valid s h in
+    let t = tests s h .0 in
+    record { counts = t .counts; ratios = join (join (join (v .original-ratio) (go ramp (v .current-ratio))) k) (v .m-holds); maxima = t .maxima; fill = t .fill; index = t .index }
+  where
+    go : (b : Bool) → isRatio (s .current) ≡ true → isRatio (cond b (s .current) r) ≡ true
+    go true c = c
+    go false c = k
+
+applied-keeps : (s t : State) (ok : Bool) (r : Float) (ramp : Bool) → applied s ok r ramp ≡ given t → isState t ≡ true
+applied-keeps s t ok r ramp e =
+    let a = accepted (isState s) _ _ _ t e in
+    let b = accepted ok _ _ _ t (a .1) in
+    let c = accepted (isRatio r) _ _ _ t (b .1) in
+    update-keeps (withRatio s r ramp) t (ratio-ready s r ramp (a .0) (c .0)) (c .1)
+
+pub ratio-keeps : (s : State) (r : Float) (ramp : Bool) → isState s ≡ true → isState (setRatio s r ramp .state) ≡ true
+ratio-keeps s r ramp h = end-keeps s (applied s (relativeHolds (s .m) (r /f s .original)) r ramp) h (λ t e. applied-keeps s t _ r ramp e)
+
+pub relative-keeps : (s : State) (rel : Float) (ramp : Bool) → isState s ≡ true → isState (setRelative s rel ramp .state) ≡ true
+relative-keeps s rel ramp h =
+    end-keeps s (applied s (aboveZero (s .original *f rel) && relativeHolds (s .m) rel) (s .original *f rel) ramp) h
+    (λ t e. applied-keeps s t _ (s .original *f rel) ramp e)
+
+counts-join : (s : State) → isChannels (s .channels) ≡ true → 1 ≤ s .chunk → s .chunk ≤ s .chunk0 → s .chunk0 ≤ 65536 → countsHold s ≡ true
+counts-join s h a b c =
+    let chunk : isChunk (s .chunk) ≡ true = join (le-leb 1 (s .chunk) a) (le-leb (s .chunk) 65536 (le-trans b c)) in
+    let chunk0 : isChunk (s .chunk0) ≡ true = join (le-leb 1 (s .chunk0) (le-trans a b)) (le-leb (s .chunk0) 65536 c) in
+    join (join (join h chunk) chunk0) (le-leb (s .chunk) (s .chunk0) b)
+
+chunk-ready : (s : State) (n : ℕ) → isState s ≡ true → (leb 1 n && leb n (s .chunk0)) ≡ true → Ready (withChunk s n)
+chunk-ready s n h k =
+    let v = valid s h in
+    let t = tests s h .0 in
+    let d = both (leb 1 n) (leb n (s .chunk0)) k in
+    let channels : isChannels (s .channels) ≡ true = join (le-leb 1 (s .channels) (v .channels-some)) (le-leb (s .channels) 16 (v .channels-few)) in
+    record { counts = counts-join (withChunk s n) channels (leb-true 1 n (d .0)) (leb-true n (s .chunk0) (d .1)) (v .chunk0-few); ratios = t .ratios; maxima = t .maxima; fill = t .fill; index = t .index }
+
+pub chunk-keeps : (s : State) (n : ℕ) → isState s ≡ true → isState (setChunk s n .state) ≡ true
+chunk-keeps s n h = end-keeps s (chunked s n) h (λ t e.
+    let a = accepted (isState s) _ _ _ t e in
+    let b = accepted (leb 1 n && leb n (s .chunk0)) _ _ _ t (a .1) in
+    update-keeps (withChunk s n) t (chunk-ready s n h (b .0)) (b .1))
+
+-- ---- construction
+counted : (b : Bool) (n : ℕ) → isSize n ≡ b → isFrames (sized b n) ≡ true → n ≤ 65536
+counted true n h k = leb-true n 65536 h
+counted false n h k = absurd (false≢true k)
+
+-- one of the maxima is the chunk itself
+chunk-few : (f : FixedAsync) (l c : ℕ) (r m : Float) → isFrames (maxInput f l c r m) ≡ true → isFrames (maxOutput f c r m) ≡ true → c ≤ 65536
+unfolding maxInput maxOutput
+chunk-few Input l c r m h k = counted (isSize c) c refl h
+chunk-few Output l c r m h k = counted (isSize c) c refl k
+
+-- a maximum of any size holds 0 frames
+none-held : (z : Size) → isFrames z ≡ true → sizeHolds z 0 ≡ true
+none-held (Frames n) h = le-leb 0 n zero-le
+none-held TooLarge h = h
+
+fresh-ready : (r m : Float) (d : PolynomialDegree) (c ch : ℕ) (f : FixedAsync) → atLeastOne m ≡ true → leb 1 c ≡ true → isRatio r ≡ true → isChannels ch ≡ true
+    → maximaHold (freshState r m d c ch f) ≡ true → Ready (freshState r m d c ch f)
+fresh-ready r m d c ch f hm hc hr hch x =
+    let s = freshState r m d c ch f in
+    let y = both (isFrames (maxInputOf s)) (isFrames (maxOutputOf s)) x in
+    record {
+      counts = counts-join s hch (leb-true 1 c hc) (le-refl c) (chunk-few f (pointsOf d) c r m (y .0) (y .1));
+      ratios = join (join (join hr hr) hr) hm;
+      maxima = x;
+      fill = none-held (maxInputOf s) (y .0);
+      index = start-inside (pointsOf d) (omega (arith, points-few d));
+    }
+
+-- the fill is the needed input, which the maximum holds
+fill-keeps : (s : State) → isState s ≡ true → isState (withFill s (s .input)) ≡ true
+fill-keeps s h =
+    let t = tests s h .0 in
+    let n = tests s h .1 in
+    passes (withFill s (s .input))
+    (record { counts = t .counts; ratios = t .ratios; maxima = t .maxima; fill = n .input-most; index = t .index })
+    (record { input = n .input; output = n .output; input-most = n .input-most })
+
+filled-keeps : (d : Said State) (s : State) → ((t : State) → d ≡ given t → isState t ≡ true) → filled d ≡ given s → isState s ≡ true
+filled-keeps (given t) s k e = subst (λ (y : State). isState y ≡ true) (same-given (withFill t (t .input)) s e) (fill-keeps t (k t refl))
+filled-keeps (refused n vs) s k e = absurd (let z : _≡_ {A = ℕ} 0 1 = cc in omega arith)
+
+pub construct-keeps : (r m : Float) (d : PolynomialDegree) (c ch : ℕ) (f : FixedAsync) (s : State) → construct r m d c ch f ≡ given s → isState s ≡ true
+unfolding construct firstLengths
+construct-keeps r m d c ch f s e =
+    let k1 = accepted (aboveZero r) _ _ _ s e in
+    let k2 = accepted (atLeastOne m) _ _ _ s (k1 .1) in
+    let k3 = accepted (leb 1 c) _ _ _ s (k2 .1) in
+    let k5 = accepted (isRatio r) _ _ _ s (k3 .1) in
+    let k7 = accepted (isChannels ch) _ _ _ s (k5 .1) in
+    let k6 = accepted (maximaHold (freshState r m d c ch f)) _ _ _ s (k7 .1) in
+    filled-keeps (updateLengths (freshState r m d c ch f)) s
+    (λ t g. update-keeps (freshState r m d c ch f) t (fresh-ready r m d c ch f (k2 .0) (k3 .0) (k5 .0) (k7 .0) (k6 .0)) g) (k6 .1)

@@ -1,0 +1,6 @@
+-- Laws of the index path, of places and of the frames. Assumes nothing.
+pub mod Floors
+pub mod Places
+pub mod Path
+pub mod Front
+pub mod Run

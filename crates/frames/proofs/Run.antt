@@ -1,0 +1,156 @@
+-- The frames of one channel, and of all. Assumes nothing.
+use mathlib.Core.Bool.{Bool, true, false}
+use mathlib.Core.List.{List, [], _∷_, _++_}
+use mathlib.Core.Logic.{⊎-elim}
+use mathlib.Core.Path.{_≡_, refl, sym, ap, _∙_}
+use Prim.Native.Nat.{ℕ, zero, suc, _+_, _-_, _*_, _≤_, _<_}
+use native.Mathlib.Nat.{not-suc-le-zero, eq-or-lt-of-le, le-of-suc-le-suc}
+use native.Mathlib.Numerals.{add-one}
+use native.Mathlib.Omega.{arith}
+use lib.Ieee.{Float, nan}
+use lib.ListN.{length, getD, take, drop, set, length-append, length-drop, length-set, List·getD-append}
+use lib.Seq.{paste, paste-zero, paste-suc, length-paste, length-take-le, take-append-le, getD-at}
+use Rattle.asynchro_fast.specs.declared.PolynomialDegree.{PolynomialDegree}
+use Rattle.area.specs.Parts.{partOf, eachPart, onePart}
+use Rattle.area.specs.Mask.{isOn, whereOn}
+use Rattle.area.proofs.Parts.{Keeps, room, part-long, part-each, length-each, each-none, each-same, each-each, each-apart}
+use Rattle.area.proofs.Parted.{Parted, parted-next, lent-is, lent-long, given-back}
+use Rattle.frames.specs.declared.Moment.{Moment}
+use Rattle.frames.specs.declared.Place.{Place}
+use Rattle.frames.specs.Path.{stepIndex, pathAt}
+use Rattle.frames.specs.Places.{placeOf, shiftOf, lastOf}
+use Rattle.frames.specs.Run.{valueAt, framesTo, wroteIn, wroteAll, ranIn, ranAll}
+use Rattle.frames.proofs.Path.{path-next}
+
+-- ---- what is done in a switched-on channel
+where-long : {A : Type 0} (b : Bool) (new old : List A) (n : ℕ) → length new ≡ n → length old ≡ n → length (whereOn b new old) ≡ n
+where-long true new old n h k = h
+where-long false new old n h k = k
+
+pub written : (on : Bool) (o : List Float) (k : ℕ) (v w : Float) → on ≡ true → v ≡ w → set o k v ≡ whereOn on (set o k w) o
+written on o k v w e h = rw (e, h)
+
+-- ---- one frame in all channels
+module _ (degree : PolynomialDegree) (mask : ℕ) (work : List Float) (stride : ℕ) (p : Place) (k share : ℕ) where
+  pub wrote-keeps : (channels : ℕ) → Keeps (wroteIn degree mask work stride p k) share channels
+  wrote-keeps channels c l o e = where-long (isOn mask c) (set o k (valueAt degree (partOf stride c work) p)) o share (length-set o k _ ∙ e) e
+
+  -- one channel more, whose shares of both areas were lent
+  pub wrote-next : (out₀ out ys : List Float) (c : ℕ) (on : Bool) → Parted (wroteIn degree mask work stride p k) share out₀ out c → c * share + share ≤ length out₀
+      → on ≡ isOn mask c
+      → ys ≡ whereOn on (set (take (c * share + share - c * share) (drop (c * share) out)) k (valueAt degree (take (c * stride + stride - c * stride) (drop (c * stride) work)) p))
+      (take (c * share + share - c * share) (drop (c * share) out))
+      → Parted (wroteIn degree mask work stride p k) share out₀ (take (c * share) out ++ (ys ++ drop (c * share + share - c * share) (drop (c * share) out))) (c + 1)
+  wrote-next out₀ out ys c on r h e y =
+      let g = wroteIn degree mask work stride p k in
+      let lent = take (c * share + share - c * share) (drop (c * share) out) in
+      let is : ys ≡ g c lent = rw (lent-is (c * stride) stride work, e) at y in
+      let fits : c * share + share ≤ length out = omega (arith, h, r .long) in
+      let n : length ys ≡ share = rw is (wrote-keeps (suc c) c (omega arith) lent (lent-long (c * share) share out fits)) in
+      let j : c * share + share - c * share ≡ share = omega arith in
+      parted-next g share out₀ out _ c r h
+      (rw j (simp (length-append, length-drop, length-take-le (c * share) out (omega arith)) (omega (arith, fits, n))))
+      (given-back g share c out ys is)
+
+-- ---- the frames of one channel
+-- the value of frame f, the first being frame 0
+abbrev pub frameOf : PolynomialDegree → ℕ → List Float → Float → Float → Float → ℕ → Float
+frameOf degree needed work t d i f = valueAt degree work (placeOf (shiftOf degree) (lastOf degree needed) (pathAt t d i (suc f) .index))
+
+module _ (degree : PolynomialDegree) (needed : ℕ) (work : List Float) (t d i : Float) where
+  pub frames-long : (n : ℕ) → length (framesTo degree needed work t d i n) ≡ n
+  unfolding framesTo
+  frames-long zero = refl
+  frames-long (suc n) = simp (length-append, frames-long n, add-one)
+
+  pub frame-at : (n f : ℕ) (z : Float) → f < n → getD (framesTo degree needed work t d i n) f z ≡ frameOf degree needed work t d i f
+  unfolding framesTo
+  frame-at zero f z l = absurd (not-suc-le-zero l)
+  frame-at (suc n) f z l =
+      ⊎-elim
+      (λ (e : f ≡ n). rw e (getD-at (framesTo degree needed work t d i n) (frameOf degree needed work t d i n) [] z n (frames-long n)))
+      (λ (e : f < n). List·getD-append (framesTo degree needed work t d i n) _ z f (rw (frames-long n) e) ∙ frame-at n f z e)
+      (eq-or-lt-of-le (le-of-suc-le-suc l))
+
+  frames-front : (f : ℕ) → take f (framesTo degree needed work t d i (suc f)) ≡ take f (framesTo degree needed work t d i f)
+  unfolding framesTo
+  frames-front f = take-append-le f (framesTo degree needed work t d i f) _ (rw (frames-long f) (omega arith))
+
+  -- one frame more, from place `at` on
+  pub frame-next : (o : List Float) (at f : ℕ) → at + f < length o
+      → set (paste o at (framesTo degree needed work t d i f) f) (at + f) (frameOf degree needed work t d i f) ≡ paste o at (framesTo degree needed work t d i (suc f)) (suc f)
+  frame-next o at f h =
+      let b = framesTo degree needed work t d i (suc f) in
+      rw (← frames-front f, ← frame-at (suc f) f nan (omega arith)) (paste-suc o at b f nan h (rw (frames-long (suc f)) (omega arith)))
+
+-- ---- the frames of all channels
+module _ (degree : PolynomialDegree) (needed mask : ℕ) (work : List Float) (stride : ℕ) (t d i : Float) (at share : ℕ) where
+  -- a share stays as long as it was
+  pub ran-keeps : (n channels : ℕ) → at + n ≤ share → Keeps (ranIn degree needed mask work stride t d i n at) share channels
+  ran-keeps n channels h c l o e =
+      let a = framesTo degree needed (partOf stride c work) t d i n in
+      where-long (isOn mask c) (paste o at a n) o share (length-paste o at a n (omega arith) (rw frames-long (omega arith)) ∙ e) e
+
+  pub ran-long : (n channels : ℕ) (out : List Float) → at + n ≤ share → channels * share ≤ length out
+      → length (ranAll degree needed mask work stride t d i n at share channels out) ≡ length out
+  ran-long n channels out h k = length-each (ranIn degree needed mask work stride t d i n at) share channels out (ran-keeps n channels h) k
+
+  -- one frame more in the channel c
+  turn : (f c : ℕ) (o : List Float) → at + f < length o
+      → wroteIn degree mask work stride (placeOf (shiftOf degree) (lastOf degree needed) (pathAt t d i (suc f) .index)) (at + f) c (ranIn degree needed mask work stride t d i f at c o)
+      ≡ ranIn degree needed mask work stride t d i (suc f) at c o
+  turn f c o h = go (isOn mask c)
+    where
+      w : List Float
+      w = partOf stride c work
+
+      go : (b : Bool) → whereOn b (set (whereOn b (paste o at (framesTo degree needed w t d i f) f) o) (at + f) (frameOf degree needed w t d i f)) (whereOn b (paste o at (framesTo degree needed w t d i f) f) o)
+          ≡ whereOn b (paste o at (framesTo degree needed w t d i (suc f)) (suc f)) o
+      go true = frame-next degree needed w t d i o at f h
+      go false = refl
+
+-- ---- the run: what holds after f frames
+pub record Ran (degree : PolynomialDegree) (needed mask : ℕ) (work : List Float) (stride : ℕ) (t d i : Float) (at share channels : ℕ) (out₀ out : List Float) (moment : Moment) (f : ℕ) : Type 0 where
+  pub long : length out ≡ length out₀
+  pub along : moment ≡ pathAt t d i f
+  pub is : out ≡ ranAll degree needed mask work stride t d i f at share channels out₀
+
+module _ (degree : PolynomialDegree) (needed mask : ℕ) (work : List Float) (stride : ℕ) (t d i : Float) (at share channels : ℕ) (out₀ : List Float) where
+  pub ran-none : Ran degree needed mask work stride t d i at share channels out₀ out₀ (record { index = i; step = t }) 0
+  unfolding pathAt
+  ran-none =
+      record {
+        long = refl;
+        along = refl;
+        is =
+            sym (each-none (ranIn degree needed mask work stride t d i 0 at) share channels out₀
+            (λ c l. stays (isOn mask c) (partOf share c out₀) (framesTo degree needed (partOf stride c work) t d i 0)));
+      }
+    where
+      stays : (b : Bool) (o s : List Float) → whereOn b (paste o at s 0) o ≡ o
+      stays true o s = sym (paste-zero o at s)
+      stays false o s = refl
+
+  pub ran-next : (out out′ : List Float) (moment moment′ : Moment) (p : Place) (f : ℕ) → Ran degree needed mask work stride t d i at share channels out₀ out moment f
+      → channels * share ≤ length out₀ → at + f < share → length out′ ≡ length out → moment′ ≡ stepIndex d moment → p ≡ placeOf (shiftOf degree) (lastOf degree needed) (moment′ .index)
+      → out′ ≡ wroteAll degree mask work stride p (at + f) share channels out
+      → Ran degree needed mask work stride t d i at share channels out₀ out′ moment′ (f + 1)
+  ran-next out out′ moment moment′ p f r h k l e q w =
+      let m = path-next t d i moment moment′ f (r .along) e in
+      let n : moment′ ≡ pathAt t d i (suc f) = rw add-one at m in
+      let u : p ≡ placeOf (shiftOf degree) (lastOf degree needed) (pathAt t d i (suc f) .index) = rw n at q in
+      let g = ranIn degree needed mask work stride t d i f at in
+      let v = wroteIn degree mask work stride (placeOf (shiftOf degree) (lastOf degree needed) (pathAt t d i (suc f) .index)) (at + f) in
+      record {
+        long = l ∙ r .long;
+        along = m;
+        is =
+            rw (w, r .is, u, add-one) (
+            each-each g share channels out₀ (ran-keeps degree needed mask work stride t d i at share f channels (omega arith)) h v
+            ∙ each-same (λ c o. v c (g c o)) (ranIn degree needed mask work stride t d i (suc f) at) share channels out₀
+            (λ c j. turn degree needed mask work stride t d i at share f c (partOf share c out₀) (rw (part-long share channels c out₀ h j) k)));
+      }
+
+  pub ran-done : (out : List Float) (moment : Moment) (f n : ℕ) → Ran degree needed mask work stride t d i at share channels out₀ out moment f → f ≡ n
+      → out ≡ ranAll degree needed mask work stride t d i n at share channels out₀
+  ran-done out moment f n r e = rw (← e) (r .is)

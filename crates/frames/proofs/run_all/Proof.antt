@@ -1,0 +1,86 @@
+-- `frames::run_all` meets its contract. The invariant: the output is that of the first f frames. Assumes nothing.
+use Prim.Native.Nat.{_≤_, _-_}
+use native.Mathlib.Omega.{arith}
+use borrow.Author.Needs.{needs}
+use denote.Ref.{now}
+use mathlib.Core.Path.{_∙_, sym}
+use Rattle.frames.proofs.Places.{shift-small, last-small, place-same, place-reach}
+use Rattle.frames.proofs.Run.{Ran, ran-none, ran-next, ran-done}
+use Rattle.frames.proofs.run_all.Statement.{statement}
+use Rattle.frames.proofs.run_all.Tie as tie
+
+abbrev Inv-loop : tie.InvT-loop
+Inv-loop degree needed mask work stride t d i n at out₀ share channels shift last moment₀ f₀ out moment f =
+    (f ≤ n) × Ran degree needed mask work stride t d i at share channels out₀ out moment f
+
+abbrev μ-loop : tie.MeasureT-loop
+μ-loop degree needed mask work stride t d i n at out₀ share channels shift last moment₀ f₀ out moment f =
+    n - f
+
+shift-of-requires : tie.Need-shift-of-requires Inv-loop μ-loop
+shift-of-requires c κs = search needs
+
+last-of-requires : tie.Need-last-of-requires Inv-loop μ-loop
+last-of-requires c κs = search needs
+
+loop-holds : tie.Need-loop-holds Inv-loop μ-loop
+loop-holds c = (omega arith, ran-none _ _ _ _ _ _ _ _ _ _ _ _)
+
+step-index-requires : tie.Need-step-index-requires Inv-loop μ-loop
+step-index-requires c κs = search needs
+
+place-of-requires : tie.Need-place-of-requires Inv-loop μ-loop
+place-of-requires c κs =
+    let s = c .before .before .before .before .before .before .before in
+    omega (arith, shift-small (s .args .degree), last-small (s .args .degree) (s .args .needed) (s .pre .0 .0))
+
+add-write-frame : tie.Need-add-write-frame Inv-loop μ-loop
+add-write-frame c = search needs
+
+write-frame-requires : tie.Need-write-frame-requires Inv-loop μ-loop
+write-frame-requires c κs =
+    let s = c .before .before .before .before .before .before .before .before .before in
+    let l = c .before .before .before .before .loop in
+    let p = place-same _ _ _ _ _ _ (c .before .before .before .before .before .before .shift-of .ensures) (c .before .before .before .before .before .last-of .ensures) (c .before .place-of .ensures) in
+    (s .pre .0 .1, ((s .pre .1 .0 .0, s .pre .1 .0 .1 ∙ sym (l .inv .1 .long)), (omega arith, place-reach _ _ _ _ _ (s .pre .1 .1 .1) p)))
+
+add-f : tie.Need-add-f Inv-loop μ-loop
+add-f c = search needs
+
+loop-less : tie.Need-loop-less Inv-loop μ-loop
+loop-less c = search needs
+
+loop-again : tie.Need-loop-again Inv-loop μ-loop
+loop-again c =
+    let s = c .before .before .before .before .before .before .before .before .before .before .before .before in
+    let l = c .before .before .before .before .before .before .before .loop in
+    let f = c .before .before .write-frame in
+    let p = c .before .before .before .before .place-of in
+    let m = c .before .before .before .before .before .step-index in
+    let q = place-same _ _ _ _ _ _ (c .before .before .before .before .before .before .before .before .before .shift-of .ensures) (c .before .before .before .before .before .before .before .before .last-of .ensures) (p .ensures) in
+    (omega arith, ran-next _ _ _ (now (s .args .work)) _ _ _ _ (s .args .at) (s .args .share) (s .args .channels) (now (s .args .out)) (l .out) _ (l .moment) (m .result) (p .result) (l .f) (l .inv .1) (omega arith) (omega arith) (f .kept .1 .1 .1 .1 .1 .1 .0) (m .ensures) q (f .ensures))
+
+same-length : tie.Need-same-length Inv-loop μ-loop
+same-length c = c .before .loop .inv .1 .long
+
+returns : tie.Need-returns Inv-loop μ-loop
+returns c = ran-done _ _ _ _ _ _ _ _ _ _ _ _ _ (c .before .loop .moment) (c .before .loop .f) (c .before .before .before .before .before .before .args .n) (c .before .loop .inv .1) (omega arith)
+
+pub run-all-spec : {M : Type 1} → statement M
+run-all-spec =
+    tie.close
+    (tie.spec
+    Inv-loop
+    μ-loop
+    shift-of-requires
+    last-of-requires
+    loop-holds
+    step-index-requires
+    place-of-requires
+    add-write-frame
+    write-frame-requires
+    add-f
+    loop-less
+    loop-again
+    same-length
+    returns)

@@ -1,0 +1,126 @@
+-- `frames::write_frame` meets its contract. The invariant: the first c channels have the frame. Assumes nothing.
+use Prim.Native.Nat.{_≤_, _-_, _+_, _*_}
+use native.Mathlib.Omega.{arith}
+use borrow.Author.Needs.{needs}
+use denote.Ref.{now}
+use lib.ListN.{length}
+use Rattle.area.proofs.Parts.{room}
+use Rattle.area.proofs.Parted.{Parted, parted-none, parted-done, lent-long}
+use Rattle.frames.specs.Run.{wroteIn}
+use Rattle.frames.proofs.Places.{reach-same}
+use Rattle.frames.proofs.Run.{wrote-next}
+use Rattle.frames.proofs.write_frame.Statement.{statement}
+use Rattle.frames.proofs.write_frame.Tie as tie
+
+abbrev Inv-loop : tie.InvT-loop
+Inv-loop degree mask work stride p k out₀ share channels c₀ out c = (c ≤ channels) × Parted (wroteIn degree mask work stride p k) share out₀ out c
+
+abbrev μ-loop : tie.MeasureT-loop
+μ-loop degree mask work stride p k out₀ share channels c₀ out c = channels - c
+
+-- there is room for this turn's part of each area
+rooms : (c : tie.In-loop Inv-loop μ-loop)
+    → (c .before .loop .c * c .before .before .before .before .args .share + c .before .before .before .before .args .share ≤ length (now (c .before .before .before .before .args .out)))
+    × (c .before .loop .c * c .before .before .before .before .args .stride + c .before .before .before .before .args .stride ≤ length (now (c .before .before .before .before .args .work)))
+rooms c =
+    let s = c .before .before .before .before in
+    (room (c .before .loop .c) (s .args .channels) (s .args .share) _ (c .loop-test .taken) (omega arith), room (c .before .loop .c) (s .args .channels) (s .args .stride) _ (c .loop-test .taken) (omega arith))
+
+loop-holds : tie.Need-loop-holds Inv-loop μ-loop
+loop-holds c = (omega arith, parted-none _ _ _)
+
+mul-a : tie.Need-mul-a Inv-loop μ-loop
+mul-a c = omega (arith, rooms c, c .before .loop .inv .1 .long)
+
+mul-b : tie.Need-mul-b Inv-loop μ-loop
+mul-b c = omega (arith, rooms c, c .before .loop .inv .1 .long)
+
+is-on-requires : tie.Need-is-on-requires Inv-loop μ-loop
+is-on-requires c κs = search needs
+
+add-write-channel : tie.Need-add-write-channel Inv-loop μ-loop
+add-write-channel c = omega (arith, rooms (c .before), c .before .before .loop .inv .1 .long)
+
+mul-write-channel : tie.Need-mul-write-channel Inv-loop μ-loop
+mul-write-channel c = omega (arith, rooms (c .before), c .before .before .loop .inv .1 .long)
+
+sub-write-channel : tie.Need-sub-write-channel Inv-loop μ-loop
+sub-write-channel c = omega (arith, rooms (c .before), c .before .before .loop .inv .1 .long)
+
+part-write-channel-start : tie.Need-part-write-channel-start Inv-loop μ-loop
+part-write-channel-start c = omega (arith, rooms (c .before), c .before .before .loop .inv .1 .long)
+
+part-write-channel-end : tie.Need-part-write-channel-end Inv-loop μ-loop
+part-write-channel-end c = omega (arith, rooms (c .before), c .before .before .loop .inv .1 .long)
+
+add-write-channel-2 : tie.Need-add-write-channel-2 Inv-loop μ-loop
+add-write-channel-2 c = omega (arith, rooms (c .before .before), c .before .before .before .loop .inv .1 .long)
+
+mul-write-channel-2 : tie.Need-mul-write-channel-2 Inv-loop μ-loop
+mul-write-channel-2 c = omega (arith, rooms (c .before .before), c .before .before .before .loop .inv .1 .long)
+
+sub-write-channel-2 : tie.Need-sub-write-channel-2 Inv-loop μ-loop
+sub-write-channel-2 c = omega (arith, rooms (c .before .before), c .before .before .before .loop .inv .1 .long)
+
+part-write-channel-start-2 : tie.Need-part-write-channel-start-2 Inv-loop μ-loop
+part-write-channel-start-2 c = omega (arith, rooms (c .before .before), c .before .before .before .loop .inv .1 .long)
+
+part-write-channel-end-2 : tie.Need-part-write-channel-end-2 Inv-loop μ-loop
+part-write-channel-end-2 c = omega (arith, rooms (c .before .before), c .before .before .before .loop .inv .1 .long)
+
+write-channel-requires : tie.Need-write-channel-requires Inv-loop μ-loop
+write-channel-requires c κs =
+    let s = c .before .before .before .before .before .before .before in
+    let l = c .before .before .before .before .loop in
+    let r = rooms (c .before .before .before) in
+    let h : l .c * s .args .share + s .args .share ≤ length (l .out) = omega (arith, r, l .inv .1 .long) in (
+      omega (arith, lent-long (l .c * s .args .share) (s .args .share) (l .out) h, s .pre .1 .1 .0),
+      reach-same _ (s .args .p) _ _ (lent-long (l .c * s .args .stride) (s .args .stride) (now (s .args .work)) (r .1)) (s .pre .1 .1 .1),
+    )
+
+add-c : tie.Need-add-c Inv-loop μ-loop
+add-c c = search needs
+
+loop-less : tie.Need-loop-less Inv-loop μ-loop
+loop-less c = search needs
+
+loop-again : tie.Need-loop-again Inv-loop μ-loop
+loop-again c =
+    let s = c .before .before .before .before .before .before .before .before .before .before in
+    let l = c .before .before .before .before .before .before .before .loop in
+    let f = c .before .before .write-channel in
+    let r = rooms (c .before .before .before .before .before .before) in
+    (omega arith, wrote-next _ _ (now (s .args .work)) (s .args .stride) _ _ (s .args .share) (now (s .args .out)) (l .out) _ (l .c) _ (l .inv .1) (r .0) (c .before .before .before .before .before .is-on .ensures) (f .ensures))
+
+same-length : tie.Need-same-length Inv-loop μ-loop
+same-length c = c .before .loop .inv .1 .long
+
+returns : tie.Need-returns Inv-loop μ-loop
+returns c = parted-done _ _ _ _ (c .before .loop .c) (c .before .before .before .before .args .channels) (c .before .loop .inv .1) (omega arith)
+
+pub write-frame-spec : {M : Type 1} → statement M
+write-frame-spec =
+    tie.close
+    (tie.spec
+    Inv-loop
+    μ-loop
+    loop-holds
+    mul-a
+    mul-b
+    is-on-requires
+    add-write-channel
+    mul-write-channel
+    sub-write-channel
+    part-write-channel-start
+    part-write-channel-end
+    add-write-channel-2
+    mul-write-channel-2
+    sub-write-channel-2
+    part-write-channel-start-2
+    part-write-channel-end-2
+    write-channel-requires
+    add-c
+    loop-less
+    loop-again
+    same-length
+    returns)

@@ -1,0 +1,3 @@
+-- The grid's laws. Assumes nothing.
+pub mod Integers
+pub mod Points

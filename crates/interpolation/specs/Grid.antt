@@ -1,0 +1,80 @@
+-- Document 01, "Grid points". Definitions only.
+use mathlib.Core.Bool.{Bool, _&&_}
+use mathlib.Core.List.{List, [], _∷_, map}
+use Prim.Native.Nat.{ℕ, _-_, _/_, _%_}
+use lib.Dec.{leb}
+use lib.IntN.{ℤ, pos, negsuc, _+ℤ_, _*ℤ_}
+use lib.Ieee.{Float, binary64, neg, lt, ofBits, toSigned, toUnsigned}
+use Rattle.exact.specs.Doubles.{_*f_, count}
+use Rattle.error.specs.Refusals.{numberOf, valuesOf, Said, given, refused, unless}
+use Rattle.whole.specs.Rounded.{floorOf, roundOf, splitOf}
+use Rattle.interpolation.specs.declared.Point.{Point}
+use Rattle.interpolation.specs.declared.Inner.{Inner}
+use Rattle.interpolation.specs.declared.Start.{Start}
+use Rattle.interpolation.specs.declared.Times1.{Times1}
+use Rattle.interpolation.specs.declared.Times1.the-variants as times1
+use Rattle.interpolation.specs.declared.Times2.{Times2}
+use Rattle.interpolation.specs.declared.Times2.the-variants as times2
+use Rattle.interpolation.specs.declared.Times3.{Times3}
+use Rattle.interpolation.specs.declared.Times3.the-variants as times3
+use Rattle.interpolation.specs.declared.Times4.{Times4}
+use Rattle.interpolation.specs.declared.Times4.the-variants as times4
+
+-- 2 ^ 52
+abbrev pub limitF : Float
+limitF = ofBits binary64 0x4330_0000_0000_0000
+
+-- "|t| below 2^52, factor 1 to 2^20 (3 to 2^20 for three and four points)": false for a NaN
+abbrev pub inRange : ℕ → Float → ℕ → Bool
+inRange least t factor = lt (neg limitF) t && lt t limitF && leb least factor && leb factor 1048576
+
+-- "index*factor+subindex = q" and "every subindex lies in 0..factor-1": the whole part of q / factor, rounded down, and the rest
+unfoldable pub pointOf : ℕ → ℤ → Point
+pointOf factor (pos n) = record { index = pos (n / factor); subindex = n % factor }
+pointOf factor (negsuc n) = record { index = negsuc (n / factor); subindex = factor - 1 - n % factor }
+
+-- "q = floor(t)*factor + floor((t-floor(t))*factor), the inner product in f64": floor(t) and the inner product, both from the split of t
+abbrev pub innerOf : Float → ℕ → Inner
+innerOf t factor = record { index = toSigned 63 (splitOf t .floor); product = splitOf t .frac *f count factor }
+
+-- `how` makes the product a whole number: its floor, and for one point round half away from zero
+abbrev pub startOf : (Float → Float) → Float → ℕ → Start
+startOf how t factor = record { index = innerOf t factor .index; parts = toUnsigned 64 (how (innerOf t factor .product)) }
+
+abbrev pub qOf : ℕ → Start → ℤ
+qOf factor s = s .index *ℤ pos factor +ℤ pos (s .parts)
+
+-- the points q + o, for each of the offsets, or refusal 11
+unfoldable pub gridSaid : ℕ → (Float → Float) → List ℤ → Float → ℕ → Said (List Point)
+gridSaid least how offsets t factor =
+    unless (inRange least t factor) 11 [] (given (map (λ o. pointOf factor (qOf factor (startOf how t factor) +ℤ o)) offsets))
+
+-- "Four points give index*factor+subindex = q-1, q, q+1, q+2; three give q, q+1, q+2; two give q, q+1; one uses round half away from zero"
+abbrev pub nearest1 : Float → ℕ → Said (List Point)
+nearest1 = gridSaid 1 roundOf (pos 0 ∷ [])
+
+abbrev pub nearest2 : Float → ℕ → Said (List Point)
+nearest2 = gridSaid 1 floorOf (pos 0 ∷ pos 1 ∷ [])
+
+abbrev pub nearest3 : Float → ℕ → Said (List Point)
+nearest3 = gridSaid 3 floorOf (pos 0 ∷ pos 1 ∷ pos 2 ∷ [])
+
+abbrev pub nearest4 : Float → ℕ → Said (List Point)
+nearest4 = gridSaid 3 floorOf (negsuc 0 ∷ pos 0 ∷ pos 1 ∷ pos 2 ∷ [])
+
+-- the answers in document 01's words
+abbrev pub saidTimes1 : Times1 → Said (List Point)
+saidTimes1 (times1.At a) = given (a ∷ [])
+saidTimes1 (times1.Refused r) = refused (numberOf r) (valuesOf r)
+
+abbrev pub saidTimes2 : Times2 → Said (List Point)
+saidTimes2 (times2.At a b) = given (a ∷ b ∷ [])
+saidTimes2 (times2.Refused r) = refused (numberOf r) (valuesOf r)
+
+abbrev pub saidTimes3 : Times3 → Said (List Point)
+saidTimes3 (times3.At a b c) = given (a ∷ b ∷ c ∷ [])
+saidTimes3 (times3.Refused r) = refused (numberOf r) (valuesOf r)
+
+abbrev pub saidTimes4 : Times4 → Said (List Point)
+saidTimes4 (times4.At a b c d) = given (a ∷ b ∷ c ∷ d ∷ [])
+saidTimes4 (times4.Refused r) = refused (numberOf r) (valuesOf r)
