@@ -3,7 +3,7 @@
 include!(concat!(env!("CRATE_SRC"), "/asynchro.rs"));
 
 /// The fields of the crate's resampler that the port keeps in its record.
-#[derive(Clone, Debug)]
+#[derive(Clone, Debug, Default)]
 pub struct Fields {
     pub channels: usize,
     pub chunk: usize,
@@ -19,6 +19,11 @@ pub struct Fields {
 }
 
 impl Async<f64> {
+    /// No fields yet: the type has no name outside the crate.
+    pub fn no_fields() -> Fields {
+        Fields::default()
+    }
+
     pub fn fields(&self) -> Fields {
         Fields {
             channels: self.nbr_channels,

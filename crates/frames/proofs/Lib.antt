@@ -3,4 +3,7 @@ pub mod Floors
 pub mod Places
 pub mod Path
 pub mod Front
+pub mod Bounds
+pub mod Frames
 pub mod Run
+pub mod Apart

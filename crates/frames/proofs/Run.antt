@@ -1,19 +1,18 @@
--- The frames of one channel, and of all. Assumes nothing.
+-- One frame in all channels, and the run: what holds after so many channels and frames. Assumes nothing.
 use mathlib.Core.Bool.{Bool, true, false}
-use mathlib.Core.List.{List, [], _∷_, _++_}
-use mathlib.Core.Logic.{⊎-elim}
-use mathlib.Core.Path.{_≡_, refl, sym, ap, _∙_}
-use Prim.Native.Nat.{ℕ, zero, suc, _+_, _-_, _*_, _≤_, _<_}
-use native.Mathlib.Nat.{not-suc-le-zero, eq-or-lt-of-le, le-of-suc-le-suc}
+use mathlib.Core.List.{List, _++_}
+use mathlib.Core.Path.{_≡_, refl, sym, _∙_}
+use Prim.Native.Nat.{ℕ, suc, _+_, _-_, _*_, _≤_, _<_}
 use native.Mathlib.Numerals.{add-one}
 use native.Mathlib.Omega.{arith}
-use lib.Ieee.{Float, nan}
-use lib.ListN.{length, getD, take, drop, set, length-append, length-drop, length-set, List·getD-append}
-use lib.Seq.{paste, paste-zero, paste-suc, length-paste, length-take-le, take-append-le, getD-at}
+use lib.Ieee.{Float}
+use lib.ListN.{length, take, drop, set, length-append, length-drop, length-set}
+use lib.Seq.{paste, paste-zero, length-paste, length-take-le}
 use Rattle.asynchro_fast.specs.declared.PolynomialDegree.{PolynomialDegree}
 use Rattle.area.specs.Parts.{partOf, eachPart, onePart}
 use Rattle.area.specs.Mask.{isOn, whereOn}
-use Rattle.area.proofs.Parts.{Keeps, room, part-long, part-each, length-each, each-none, each-same, each-each, each-apart}
+use Rattle.area.proofs.Switched.{where-long, where-same}
+use Rattle.area.proofs.Parts.{Keeps, part-long, length-each, each-none, each-same, each-each}
 use Rattle.area.proofs.Parted.{Parted, parted-next, lent-is, lent-long, given-back}
 use Rattle.frames.specs.declared.Moment.{Moment}
 use Rattle.frames.specs.declared.Place.{Place}
@@ -21,16 +20,13 @@ use Rattle.frames.specs.Path.{stepIndex, pathAt}
 use Rattle.frames.specs.Places.{placeOf, shiftOf, lastOf}
 use Rattle.frames.specs.Run.{valueAt, framesTo, wroteIn, wroteAll, ranIn, ranAll}
 use Rattle.frames.proofs.Path.{path-next}
+use Rattle.frames.proofs.Frames.{frameOf, frames-long, frame-next}
 
--- ---- what is done in a switched-on channel
-where-long : {A : Type 0} (b : Bool) (new old : List A) (n : ℕ) → length new ≡ n → length old ≡ n → length (whereOn b new old) ≡ n
-where-long true new old n h k = h
-where-long false new old n h k = k
-
+-- ---- one frame in all channels
+-- in a switched-on one
 pub written : (on : Bool) (o : List Float) (k : ℕ) (v w : Float) → on ≡ true → v ≡ w → set o k v ≡ whereOn on (set o k w) o
 written on o k v w e h = rw (e, h)
 
--- ---- one frame in all channels
 module _ (degree : PolynomialDegree) (mask : ℕ) (work : List Float) (stride : ℕ) (p : Place) (k share : ℕ) where
   pub wrote-keeps : (channels : ℕ) → Keeps (wroteIn degree mask work stride p k) share channels
   wrote-keeps channels c l o e = where-long (isOn mask c) (set o k (valueAt degree (partOf stride c work) p)) o share (length-set o k _ ∙ e) e
@@ -51,37 +47,6 @@ module _ (degree : PolynomialDegree) (mask : ℕ) (work : List Float) (stride : 
       parted-next g share out₀ out _ c r h
       (rw j (simp (length-append, length-drop, length-take-le (c * share) out (omega arith)) (omega (arith, fits, n))))
       (given-back g share c out ys is)
-
--- ---- the frames of one channel
--- the value of frame f, the first being frame 0
-abbrev pub frameOf : PolynomialDegree → ℕ → List Float → Float → Float → Float → ℕ → Float
-frameOf degree needed work t d i f = valueAt degree work (placeOf (shiftOf degree) (lastOf degree needed) (pathAt t d i (suc f) .index))
-
-module _ (degree : PolynomialDegree) (needed : ℕ) (work : List Float) (t d i : Float) where
-  pub frames-long : (n : ℕ) → length (framesTo degree needed work t d i n) ≡ n
-  unfolding framesTo
-  frames-long zero = refl
-  frames-long (suc n) = simp (length-append, frames-long n, add-one)
-
-  pub frame-at : (n f : ℕ) (z : Float) → f < n → getD (framesTo degree needed work t d i n) f z ≡ frameOf degree needed work t d i f
-  unfolding framesTo
-  frame-at zero f z l = absurd (not-suc-le-zero l)
-  frame-at (suc n) f z l =
-      ⊎-elim
-      (λ (e : f ≡ n). rw e (getD-at (framesTo degree needed work t d i n) (frameOf degree needed work t d i n) [] z n (frames-long n)))
-      (λ (e : f < n). List·getD-append (framesTo degree needed work t d i n) _ z f (rw (frames-long n) e) ∙ frame-at n f z e)
-      (eq-or-lt-of-le (le-of-suc-le-suc l))
-
-  frames-front : (f : ℕ) → take f (framesTo degree needed work t d i (suc f)) ≡ take f (framesTo degree needed work t d i f)
-  unfolding framesTo
-  frames-front f = take-append-le f (framesTo degree needed work t d i f) _ (rw (frames-long f) (omega arith))
-
-  -- one frame more, from place `at` on
-  pub frame-next : (o : List Float) (at f : ℕ) → at + f < length o
-      → set (paste o at (framesTo degree needed work t d i f) f) (at + f) (frameOf degree needed work t d i f) ≡ paste o at (framesTo degree needed work t d i (suc f)) (suc f)
-  frame-next o at f h =
-      let b = framesTo degree needed work t d i (suc f) in
-      rw (← frames-front f, ← frame-at (suc f) f nan (omega arith)) (paste-suc o at b f nan h (rw (frames-long (suc f)) (omega arith)))
 
 -- ---- the frames of all channels
 module _ (degree : PolynomialDegree) (needed mask : ℕ) (work : List Float) (stride : ℕ) (t d i : Float) (at share : ℕ) where
@@ -124,12 +89,8 @@ module _ (degree : PolynomialDegree) (needed mask : ℕ) (work : List Float) (st
         along = refl;
         is =
             sym (each-none (ranIn degree needed mask work stride t d i 0 at) share channels out₀
-            (λ c l. stays (isOn mask c) (partOf share c out₀) (framesTo degree needed (partOf stride c work) t d i 0)));
+            (λ c l. let o = partOf share c out₀ in where-same (isOn mask c) _ o (sym (paste-zero o at (framesTo degree needed (partOf stride c work) t d i 0)))));
       }
-    where
-      stays : (b : Bool) (o s : List Float) → whereOn b (paste o at s 0) o ≡ o
-      stays true o s = sym (paste-zero o at s)
-      stays false o s = refl
 
   pub ran-next : (out out′ : List Float) (moment moment′ : Moment) (p : Place) (f : ℕ) → Ran degree needed mask work stride t d i at share channels out₀ out moment f
       → channels * share ≤ length out₀ → at + f < share → length out′ ≡ length out → moment′ ≡ stepIndex d moment → p ≡ placeOf (shiftOf degree) (lastOf degree needed) (moment′ .index)

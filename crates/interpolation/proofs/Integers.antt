@@ -1,8 +1,11 @@
 -- Whole numbers with a sign are equal where the pairs of naturals that they are the differences of say so. Assumes nothing.
-use mathlib.Core.Path.{_≡_, refl, ap}
+use mathlib.Core.Path.{_≡_, refl, sym, ap, _∙_, subst}
 use Prim.Native.Nat.{ℕ, zero, suc, _+_, _*_, _≤_}
 use native.Mathlib.Omega.{arith}
-use lib.IntN.{ℤ, pos, negsuc, natAbs, _+ℤ_, _*ℤ_}
+use lib.IntN.{ℤ, pos, negsuc, natAbs, _+ℤ_, _-ℤ_, _*ℤ_}
+use mir.Syntax.{w64}
+use mir.Val.{SFits, toZ, ofZ}
+use mir.ValLaws.{toZ-ofZ}
 use Rattle.exact.specs.Whole.{Whole, _⊕_, _⊙_, Same}
 use Rattle.exact.specs.Integers.{Is}
 use Rattle.exact.proofs.Integers.{neg-is, plus-is}
@@ -41,3 +44,17 @@ abs-is (negsuc n) b v h k l = omega arith
 pub pair-abs : (z : ℤ) → (pairOf z .0 ≤ natAbs z) × (pairOf z .1 ≤ natAbs z)
 pair-abs (pos n) = omega arith
 pair-abs (negsuc n) = omega arith
+
+-- what is no larger than 2 ^ 62 is an i64
+pub abs-fits : (z : ℤ) → natAbs z ≤ 4611686018427387904 → SFits w64 z
+abs-fits (pos n) h = record { sfits = omega arith }
+abs-fits (negsuc n) h = record { sfits = omega arith }
+
+
+-- one less, in the machine: what it asks, and what it gives
+pub lowered : (z : ℤ) → natAbs z ≤ 4503599627370496 → SFits w64 (toZ w64 (ofZ w64 z) -ℤ pos 1) × (toZ w64 (ofZ w64 (toZ w64 (ofZ w64 z) -ℤ pos 1)) ≡ z -ℤ pos 1)
+lowered z h =
+    let a = pair-abs z in
+    let e : toZ w64 (ofZ w64 z) ≡ z = toZ-ofZ w64 z (abs-fits z (omega arith)) in
+    let w = abs-fits (z -ℤ pos 1) (abs-is (z -ℤ pos 1) 4611686018427387904 (pairOf z ⊕ (0, 1)) (plus-is z (negsuc 0) (pairOf z) (0, 1) (pair-is z) (pair-is (negsuc 0))) (omega arith) (omega arith)) in
+    (subst (λ (y : ℤ). SFits w64 (y -ℤ pos 1)) (sym e) w, ap (λ (y : ℤ). toZ w64 (ofZ w64 (y -ℤ pos 1))) e ∙ toZ-ofZ w64 (z -ℤ pos 1) w)

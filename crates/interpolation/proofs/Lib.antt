@@ -1,3 +1,6 @@
 -- The grid's laws. Assumes nothing.
 pub mod Integers
 pub mod Points
+pub mod Carries
+pub mod Range
+pub mod Product

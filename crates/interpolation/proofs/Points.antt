@@ -35,7 +35,10 @@ once-divided f a b r s h k e =
     (w, omega (arith, ap (λ (x : ℕ). x * f) w))
 
 same-parts : (p o : Point) → p .index ≡ o .index → p .subindex ≡ o .subindex → p ≡ o
-same-parts p o h k = cc
+same-parts p o h k = ap (λ (i : ℤ). made i (p .subindex)) h ∙ ap (made (o .index)) k
+  where
+    made : ℤ → ℕ → Point
+    made i s = record { index = i; subindex = s }
 
 pub numbered-once : (factor : ℕ) (q : ℤ) (p o : Point) → Numbered factor q p → Numbered factor q o → p ≡ o
 numbered-once f q p o h k =

@@ -1,9 +1,9 @@
 -- Document 01, "Grid points". Definitions only.
 use mathlib.Core.Bool.{Bool, _&&_}
 use mathlib.Core.List.{List, [], _∷_, map}
-use Prim.Native.Nat.{ℕ, _-_, _/_, _%_}
+use Prim.Native.Nat.{ℕ, _-_, _/_, _%_, _≤_}
 use lib.Dec.{leb}
-use lib.IntN.{ℤ, pos, negsuc, _+ℤ_, _*ℤ_}
+use lib.IntN.{ℤ, pos, negsuc, natAbs, _+ℤ_, _*ℤ_}
 use lib.Ieee.{Float, binary64, neg, lt, ofBits, toSigned, toUnsigned}
 use Rattle.exact.specs.Doubles.{_*f_, count}
 use Rattle.error.specs.Refusals.{numberOf, valuesOf, Said, given, refused, unless}
@@ -24,9 +24,13 @@ use Rattle.interpolation.specs.declared.Times4.the-variants as times4
 abbrev pub limitF : Float
 limitF = ofBits binary64 0x4330_0000_0000_0000
 
--- "|t| below 2^52, factor 1 to 2^20 (3 to 2^20 for three and four points)": false for a NaN
+-- "|t| below 2^52": false for a NaN
+abbrev pub small : Float → Bool
+small t = lt (neg limitF) t && lt t limitF
+
+-- "factor 1 to 2^20 (3 to 2^20 for three and four points)"
 abbrev pub inRange : ℕ → Float → ℕ → Bool
-inRange least t factor = lt (neg limitF) t && lt t limitF && leb least factor && leb factor 1048576
+inRange least t factor = small t && leb least factor && leb factor 1048576
 
 -- "index*factor+subindex = q" and "every subindex lies in 0..factor-1": the whole part of q / factor, rounded down, and the rest
 unfoldable pub pointOf : ℕ → ℤ → Point
@@ -40,6 +44,10 @@ innerOf t factor = record { index = toSigned 63 (splitOf t .floor); product = sp
 -- `how` makes the product a whole number: its floor, and for one point round half away from zero
 abbrev pub startOf : (Float → Float) → Float → ℕ → Start
 startOf how t factor = record { index = innerOf t factor .index; parts = toUnsigned 64 (how (innerOf t factor .product)) }
+
+-- a start is no further off than 2 ^ 52, and has no more parts than a whole time: a fraction of 1.0 gives that many
+abbrev pub Near : ℕ → Start → Type 0
+Near factor s = (natAbs (s .index) ≤ 4503599627370496) × (s .parts ≤ factor)
 
 abbrev pub qOf : ℕ → Start → ℤ
 qOf factor s = s .index *ℤ pos factor +ℤ pos (s .parts)

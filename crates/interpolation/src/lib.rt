@@ -4,10 +4,10 @@
 use error::Refusal;
 ghost use mathlib.Core.Path.{_≡_};
 ghost use mathlib.Core.Bool.{true};
-ghost use Prim.Native.Nat.{_+_, _*_, _≤_, _<_};
-ghost use lib.IntN.{pos, natAbs, _+ℤ_, _-ℤ_, _*ℤ_};
+ghost use Prim.Native.Nat.{_≤_, _<_};
+ghost use lib.IntN.{pos, _+ℤ_, _-ℤ_};
 ghost use Rattle.whole.specs.Rounded.{floorOf, roundOf};
-ghost use Rattle.interpolation.specs.Grid.{inRange, pointOf, innerOf, startOf, qOf, saidTimes1, saidTimes2, saidTimes3, saidTimes4, nearest1, nearest2, nearest3, nearest4};
+ghost use Rattle.interpolation.specs.Grid.{small, inRange, pointOf, innerOf, startOf, Near, qOf, saidTimes1, saidTimes2, saidTimes3, saidTimes4, nearest1, nearest2, nearest3, nearest4};
 
 // A point of the grid.
 pub struct Point {
@@ -59,7 +59,7 @@ fn in_range(t: f64, factor: u64, least: u64) -> bool
 // The point `ahead` places after q - 1. The index gives a whole time away first, so that q - 1 has
 // parts to be taken from; then each whole time among the parts goes back to the index.
 fn place(start: Start, factor: u64, ahead: u64) -> Point
-    requires { ⌜ (natAbs (start .index) ≤ 4503599627370496) × (start .parts ≤ factor) × (0 < factor) × (factor ≤ 1048576) × (ahead ≤ 3) ⌝ }
+    requires { ⌜ Near factor start × (0 < factor) × (factor ≤ 1048576) × (ahead ≤ 3) ⌝ }
     ensures { λ r. ⌜ r ≡ pointOf factor (qOf factor start +ℤ (pos ahead -ℤ pos 1)) ⌝ }
 {
     let mut index = start.index - 1;
@@ -76,7 +76,7 @@ fn place(start: Start, factor: u64, ahead: u64) -> Point
 
 // floor(t) and the product, both from the one split of t.
 fn inner_of(t: f64, factor: u64) -> Inner
-    requires { ⌜ inRange 1 t factor ≡ true ⌝ }
+    requires { ⌜ (small t ≡ true) × (factor ≤ 1048576) ⌝ }
     ensures { λ r. ⌜ r ≡ innerOf t factor ⌝ }
 {
     let s = whole::split(t);
@@ -87,8 +87,8 @@ fn inner_of(t: f64, factor: u64) -> Inner
 
 // Where q lies, for two, three and four points.
 fn start_floor(t: f64, factor: u64) -> Start
-    requires { ⌜ inRange 1 t factor ≡ true ⌝ }
-    ensures { λ r. ⌜ r ≡ startOf floorOf t factor ⌝ }
+    requires { ⌜ (small t ≡ true) × (factor ≤ 1048576) ⌝ }
+    ensures { λ r. ⌜ (r ≡ startOf floorOf t factor) × Near factor r ⌝ }
 {
     let i = inner_of(t, factor);
     let parts = std::num::truncating_f64_to_u64(whole::floor(i.product));
@@ -98,8 +98,8 @@ fn start_floor(t: f64, factor: u64) -> Start
 
 // The same for one point: the nearest part, a half away from zero.
 fn start_round(t: f64, factor: u64) -> Start
-    requires { ⌜ inRange 1 t factor ≡ true ⌝ }
-    ensures { λ r. ⌜ r ≡ startOf roundOf t factor ⌝ }
+    requires { ⌜ (small t ≡ true) × (factor ≤ 1048576) ⌝ }
+    ensures { λ r. ⌜ (r ≡ startOf roundOf t factor) × Near factor r ⌝ }
 {
     let i = inner_of(t, factor);
     let parts = std::num::truncating_f64_to_u64(whole::round(i.product));

@@ -134,23 +134,23 @@ fn plan(s: State, frames: usize, mask: u64, input: usize, output: usize, work: u
     asynchro::record::update_lengths(after_block(s, seen.index))
 }
 
-// The second pass: what the areas become. `at_in` and `at_out` are places in each share of the
-// input and of the output.
+// The second pass: what the areas become. `at` and `to` are places in each share of the input and
+// of the output.
 fn write(
     s: State,
     frames: usize,
     mask: u64,
     input: &[f64],
-    at_in: usize,
+    at: usize,
     output: &mut [f64],
-    at_out: usize,
+    to: usize,
     work: &mut [f64],
 )
     requires { ⌜ isState s ≡ true ⌝ }
     requires { ⌜ shapeHolds s frames mask (length (now input)) (length (now output)) (length (now work)) ≡ true ⌝ }
-    requires { ⌜ (at_in ≡ 0) × (at_out ≡ 0) ⌝ }
-    ensures worked { λ _. ⌜ now (work .exit) ≡ workAfter s frames mask (now (input .entry)) at_in (now (work .entry)) ⌝ }
-    ensures written { λ _. ⌜ now (output .exit) ≡ outputAfter s mask (workAfter s frames mask (now (input .entry)) at_in (now (work .entry))) at_out (now (output .entry)) ⌝ }
+    requires { ⌜ (at ≡ 0) × (to ≡ 0) ⌝ }
+    ensures worked { λ _. ⌜ now (work .exit) ≡ workAfter s frames mask (now (input .entry)) at (now (work .entry)) ⌝ }
+    ensures written { λ _. ⌜ now (output .exit) ≡ outputAfter s mask (workAfter s frames mask (now (input .entry)) at (now (work .entry))) to (now (output .entry)) ⌝ }
 {
     let channels = s.channels;
     let stride = stride_of(s);
@@ -160,13 +160,13 @@ fn write(
     let share_out = output.len() / channels;
     area::move_all(work, stride, channels, mask, s.fill, l2);
     area::load_all(
-        work, stride, channels, mask, l2, input, share_in, at_in, read, s.input,
+        work, stride, channels, mask, l2, input, share_in, at, read, s.input,
     );
     let t = asynchro::record::step_now(s);
     let d = t_ratio_increment(s);
     let degree = s.degree;
     frames::run_all(
-        degree, s.input, mask, work, stride, t, d, s.index, s.output, at_out, output, share_out,
+        degree, s.input, mask, work, stride, t, d, s.index, s.output, to, output, share_out,
         channels,
     );
 }

@@ -35,9 +35,13 @@ runOf b w = cond (allDigits b w && ltb (numeral b w) (2 ^ 64)) (run.Digits (min 
 abbrev pub noDigits : Run
 noDigits = run.Digits 0 0
 
+-- one digit more, d
+unfoldable pub stepDigit : ℕ → ℕ → ℕ → ℕ → Run
+stepDigit b n v d = cond (ltb d b && ltb (v * b + d) (2 ^ 64)) (run.Digits (min (n + 1) 17) (v * b + d)) run.Bad
+
 -- one byte more
 abbrev pub stepRun : ℕ → Run → ℕ → Run
-stepRun b (run.Digits n v) c = cond (ltb (digitOf c) b && ltb (v * b + digitOf c) (2 ^ 64)) (run.Digits (min (n + 1) 17) (v * b + digitOf c)) run.Bad
+stepRun b (run.Digits n v) c = stepDigit b n v (digitOf c)
 stepRun b run.Bad c = run.Bad
 
 -- the word has ended

@@ -1,5 +1,5 @@
 -- `interp_answer` tests the number of samples once, for every degree. Assumes nothing.
-use mathlib.Core.Path.{_≡_, refl, sym, ap, _∙_}
+use mathlib.Core.Path.{sym, ap, _∙_}
 use borrow.Author.Needs.{needs}
 use borrow.Author.Tests.{eq-eqb, ne-eqb}
 use Rattle.error.proofs.Ladder.{pass, stop}

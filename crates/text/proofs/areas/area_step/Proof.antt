@@ -1,73 +1,66 @@
+-- `text::areas::area_step` meets its contract: each return goes by the case that led there. Assumes nothing.
 use borrow.Author.Needs.{needs}
+use borrow.Author.Tests.{eq-eqb}
+use Rattle.text.proofs.Held.{first-state, first-stored, later-state, later-stored}
 use Rattle.text.proofs.areas.area_step.Statement.{statement}
 use Rattle.text.proofs.areas.area_step.Tie as tie
-use Rattle.text.proofs.areas.area_step.Reads as reads
-use Rattle.text.proofs.areas.area_step.Lts as lts
-use Rattle.text.proofs.areas.next.Reads as next-reads
-use Rattle.text.proofs.words.hex_step.Reads as hex-step-reads
-use Rattle.text.proofs.words.no_digits.Reads as no-digits-reads
 
--- src/areas.rt:42:16
 enum-told : tie.Need-enum-told
 enum-told c = search needs
 
--- src/areas.rt:45:40
 no-digits-requires : tie.Need-no-digits-requires
 no-digits-requires c κs = search needs
 
--- src/areas.rt:45:31
 hex-step-requires : tie.Need-hex-step-requires
 hex-step-requires c κs = search needs
 
--- src/areas.rt:45:17
 next-requires : tie.Need-next-requires
 next-requires c κs = search needs
 
--- src/areas.rt:48:23
 enum-told-2 : tie.Need-enum-told-2
 enum-told-2 c = search needs
 
--- src/areas.rt:49:23
 enum-known-read : tie.Need-enum-known-read
 enum-known-read c = search needs
 
--- src/areas.rt:49:48
 hex-step-requires-2 : tie.Need-hex-step-requires-2
 hex-step-requires-2 c κs = search needs
 
--- src/areas.rt:49:34
 next-requires-2 : tie.Need-next-requires-2
 next-requires-2 c κs = search needs
 
--- src/areas.rt:50:22
 enum-told-3 : tie.Need-enum-told-3
 enum-told-3 c = search needs
 
--- src/areas.rt:36:1
 returns : tie.Need-returns
-returns c = ?
+returns c =
+    let e = c .before .enum-told .given .1 in
+    let n = eq-eqb _ 45 (c .if1 .taken) in
+    (rw (e, n), rw (e, n))
 
--- src/areas.rt:36:1
 same-length : tie.Need-same-length
 same-length c = search needs
 
--- src/areas.rt:36:1
 returns-2 : tie.Need-returns-2
-returns-2 c = ?
+returns-2 c =
+    let e = c .before .before .before .before .before .before .before .enum-told .given .1 in
+    let h = c .before .before .before .before .before .before .if1 .left in
+    let p = c .before .before .before .before .no-digits .ensures in
+    let q = c .before .before .before .hex-step .ensures in
+    (first-state _ _ _ _ e h p q _ _ (c .before .before .next .ensures .0), first-stored _ _ _ _ e h p q _ _ (c .before .before .next .ensures .1))
 
--- src/areas.rt:36:1
 returns-3 : tie.Need-returns-3
 returns-3 c = search needs
 
--- src/areas.rt:36:1
 same-length-2 : tie.Need-same-length-2
 same-length-2 c = search needs
 
--- src/areas.rt:36:1
 returns-4 : tie.Need-returns-4
-returns-4 c = ?
+returns-4 c =
+    let e = c .before .before .before .before .before .before .read .given .1 in
+    let q = c .before .before .before .hex-step2 .ensures in
+    (later-state _ _ _ _ _ e q _ _ (c .before .before .next2 .ensures .0), later-stored _ _ _ _ _ e q _ _ (c .before .before .next2 .ensures .1))
 
--- src/areas.rt:36:1
 returns-5 : tie.Need-returns-5
 returns-5 c = search needs
 

@@ -1,18 +1,15 @@
+-- `text::bits::bits_of` meets its contract. Assumes nothing.
 use borrow.Author.Needs.{needs}
+use Rattle.text.proofs.Patterns.{nan-told, no-nan}
 use Rattle.text.proofs.bits.bits_of.Statement.{statement}
 use Rattle.text.proofs.bits.bits_of.Tie as tie
-use Rattle.text.proofs.bits.bits_of.Reads as reads
-use Rattle.text.proofs.bits.bits_of.Lts as lts
 
--- src/bits.rt:11:9
 returns : tie.Need-returns
-returns c = ?
+returns c = nan-told (c .before .args .x) (c .if1 .taken)
 
--- src/bits.rt:13:5
 float-to-bits-result : tie.Need-float-to-bits-result
-float-to-bits-result c = ?
+float-to-bits-result c = no-nan (c .before .args .x) (c .if1 .left)
 
--- src/bits.rt:7:1
 returns-2 : tie.Need-returns-2
 returns-2 c = search needs
 

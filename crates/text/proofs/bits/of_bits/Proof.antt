@@ -1,18 +1,15 @@
+-- `text::bits::of_bits` meets its contract. Assumes nothing.
 use borrow.Author.Needs.{needs}
+use Rattle.text.proofs.Patterns.{nan-pattern, no-nan-pattern}
 use Rattle.text.proofs.bits.of_bits.Statement.{statement}
 use Rattle.text.proofs.bits.of_bits.Tie as tie
-use Rattle.text.proofs.bits.of_bits.Reads as reads
-use Rattle.text.proofs.bits.of_bits.Lts as lts
 
--- src/bits.rt:21:9
 returns : tie.Need-returns
-returns c = ?
+returns c = nan-pattern (c .before .args .n) (c .if1 .taken)
 
--- src/bits.rt:23:5
 float-from-bits-result : tie.Need-float-from-bits-result
-float-from-bits-result c = ?
+float-from-bits-result c = no-nan-pattern (c .before .args .n) (c .if1 .left)
 
--- src/bits.rt:17:1
 returns-2 : tie.Need-returns-2
 returns-2 c = search needs
 

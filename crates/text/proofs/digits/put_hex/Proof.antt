@@ -1,62 +1,54 @@
+-- `text::digits::put_hex` meets its contract: each turn puts one digit more. Assumes nothing.
+use Prim.Native.Nat.{_-_, _≤_}
+use native.Mathlib.Omega.{arith}
+use borrow.Author.Needs.{needs}
+use Rattle.text.proofs.Glyphs.{Put, put-none, put-next, put-done}
 use Rattle.text.proofs.digits.put_hex.Statement.{statement}
 use Rattle.text.proofs.digits.put_hex.Tie as tie
-use Rattle.text.proofs.digits.put_hex.Reads as reads
-use Rattle.text.proofs.digits.put_hex.Lts as lts
-use Rattle.text.proofs.digits.glyph_of.Reads as glyph-of-reads
 
 abbrev Inv-loop : tie.InvT-loop
-Inv-loop buf₀ at n k₀ buf k = ?
+Inv-loop buf₀ at n k₀ buf k = (k ≤ 16) × Put buf₀ at n buf k
 
 abbrev μ-loop : tie.MeasureT-loop
-μ-loop buf₀ at n k₀ buf k = ?
+μ-loop buf₀ at n k₀ buf k = 16 - k
 
--- src/digits.rt:44:5
 loop-holds : tie.Need-loop-holds Inv-loop μ-loop
-loop-holds c = ?
+loop-holds c = (omega arith, put-none _ _ _)
 
--- src/digits.rt:45:44
 mul-glyph-of : tie.Need-mul-glyph-of Inv-loop μ-loop
-mul-glyph-of c = ?
+mul-glyph-of c = search needs
 
--- src/digits.rt:45:39
 sub-glyph-of : tie.Need-sub-glyph-of Inv-loop μ-loop
-sub-glyph-of c = ?
+sub-glyph-of c = search needs
 
--- src/digits.rt:45:33
 shr-glyph-of : tie.Need-shr-glyph-of Inv-loop μ-loop
-shr-glyph-of c = ?
+shr-glyph-of c = search needs
 
--- src/digits.rt:45:23
 glyph-of-requires : tie.Need-glyph-of-requires Inv-loop μ-loop
-glyph-of-requires c κs = ?
+glyph-of-requires c κs = search needs
 
--- src/digits.rt:45:13
 add-buf : tie.Need-add-buf Inv-loop μ-loop
-add-buf c = ?
+add-buf c = search needs
 
--- src/digits.rt:45:9
 slice-write-buf : tie.Need-slice-write-buf Inv-loop μ-loop
-slice-write-buf c = ?
+slice-write-buf c = search needs
 
--- src/digits.rt:44:9
 add-k : tie.Need-add-k Inv-loop μ-loop
-add-k c = ?
+add-k c = search needs
 
--- src/digits.rt:44:5
 loop-less : tie.Need-loop-less Inv-loop μ-loop
-loop-less c = ?
+loop-less c = search needs
 
--- src/digits.rt:44:5
 loop-again : tie.Need-loop-again Inv-loop μ-loop
-loop-again c = ?
+loop-again c =
+    let l = c .before .before .loop in
+    (omega arith, put-next _ _ _ _ (l .k) _ (l .inv .1) (omega arith) (omega arith) (c .glyph-of .ensures))
 
--- src/digits.rt:40:1
 same-length : tie.Need-same-length Inv-loop μ-loop
-same-length c = ?
+same-length c = c .before .loop .inv .1 .long
 
--- src/digits.rt:40:1
 returns : tie.Need-returns Inv-loop μ-loop
-returns c = ?
+returns c = put-done _ _ _ _ _ (c .before .loop .inv .1) (omega arith)
 
 pub put-hex-spec : {M : Type 1} → statement M
 put-hex-spec =

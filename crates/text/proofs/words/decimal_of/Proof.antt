@@ -1,52 +1,47 @@
+-- `text::words::decimal_of` meets its contract: each turn reads one byte more. Assumes nothing.
+use mathlib.Core.Path.{_∙_, ap}
+use Prim.Native.Nat.{_≤_, _-_}
+use native.Mathlib.Omega.{arith}
+use borrow.Author.Needs.{needs}
+use lib.Dec.{lit<}
+use lib.ListN.{length}
+use Rattle.text.specs.Words.{decimalDone}
+use Rattle.text.proofs.Runs.{Come, come-none, come-next, come-whole, decimal-whole}
 use Rattle.text.proofs.words.decimal_of.Statement.{statement}
 use Rattle.text.proofs.words.decimal_of.Tie as tie
-use Rattle.text.proofs.words.decimal_of.Reads as reads
-use Rattle.text.proofs.words.decimal_of.Lts as lts
-use Rattle.text.proofs.words.decimal_done.Reads as decimal-done-reads
-use Rattle.text.proofs.words.decimal_step.Reads as decimal-step-reads
-use Rattle.text.proofs.words.no_digits.Reads as no-digits-reads
 
 abbrev Inv-loop : tie.InvT-loop
-Inv-loop word run₀ k₀ k-end run k = ?
+Inv-loop word run₀ k₀ k-end run k = (k ≤ length word) × Come 10 word run k
 
 abbrev μ-loop : tie.MeasureT-loop
-μ-loop word run₀ k₀ k-end run k = ?
+μ-loop word run₀ k₀ k-end run k = length word - k
 
--- src/words.rt:98:9
 no-digits-requires : tie.Need-no-digits-requires Inv-loop μ-loop
-no-digits-requires c κs = ?
+no-digits-requires c κs = search needs
 
--- src/words.rt:99:5
 loop-holds : tie.Need-loop-holds Inv-loop μ-loop
-loop-holds c = ?
+loop-holds c = (omega arith, come-none _ _ _ (c .no-digits .ensures))
 
--- src/words.rt:100:33
 shared-slice-read-decimal-step : tie.Need-shared-slice-read-decimal-step Inv-loop μ-loop
-shared-slice-read-decimal-step c = ?
+shared-slice-read-decimal-step c = search needs
 
--- src/words.rt:100:9
 decimal-step-requires : tie.Need-decimal-step-requires Inv-loop μ-loop
-decimal-step-requires c κs = ?
+decimal-step-requires c κs = search needs
 
--- src/words.rt:99:9
 add-k : tie.Need-add-k Inv-loop μ-loop
-add-k c = ?
+add-k c = search needs
 
--- src/words.rt:99:5
 loop-less : tie.Need-loop-less Inv-loop μ-loop
-loop-less c = ?
+loop-less c = search needs
 
--- src/words.rt:99:5
 loop-again : tie.Need-loop-again Inv-loop μ-loop
-loop-again c = ?
+loop-again c = (omega arith, come-next _ _ _ _ _ (lit< tt) (omega arith) (c .before .before .before .loop .inv .1) (c .decimal-step .ensures))
 
--- src/words.rt:102:5
 decimal-done-requires : tie.Need-decimal-done-requires Inv-loop μ-loop
-decimal-done-requires c κs = ?
+decimal-done-requires c κs = search needs
 
--- src/words.rt:95:1
 returns : tie.Need-returns Inv-loop μ-loop
-returns c = ?
+returns c = c .decimal-done .ensures ∙ ap decimalDone (come-whole 10 _ _ _ (omega arith) (c .before .before .loop .inv .1)) ∙ decimal-whole _
 
 pub decimal-of-spec : {M : Type 1} → statement M
 decimal-of-spec =

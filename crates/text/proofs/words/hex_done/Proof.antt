@@ -1,26 +1,21 @@
+-- `text::words::hex_done` meets its contract. Assumes nothing.
 use borrow.Author.Needs.{needs}
+use borrow.Author.Tests.{eq-eqb, ne-eqb}
 use Rattle.text.proofs.words.hex_done.Statement.{statement}
 use Rattle.text.proofs.words.hex_done.Tie as tie
-use Rattle.text.proofs.words.hex_done.Reads as reads
-use Rattle.text.proofs.words.hex_done.Lts as lts
 
--- src/words.rt:83:21
 enum-known-run : tie.Need-enum-known-run
 enum-known-run c = search needs
 
--- src/words.rt:90:21
 enum-told : tie.Need-enum-told
 enum-told c = search needs
 
--- src/words.rt:79:1
 returns : tie.Need-returns
-returns c = ?
+returns c = rw (c .before .before .run .given .1, eq-eqb _ 16 (c .if1 .taken))
 
--- src/words.rt:79:1
 returns-2 : tie.Need-returns-2
-returns-2 c = ?
+returns-2 c = rw (c .before .before .run .given .1, ne-eqb _ 16 (c .if1 .left))
 
--- src/words.rt:79:1
 returns-3 : tie.Need-returns-3
 returns-3 c = search needs
 

@@ -1,52 +1,47 @@
+-- `text::words::hex_of` meets its contract: each turn reads one byte more. Assumes nothing.
+use mathlib.Core.Path.{_∙_, ap}
+use Prim.Native.Nat.{_≤_, _-_}
+use native.Mathlib.Omega.{arith}
+use borrow.Author.Needs.{needs}
+use lib.Dec.{lit<}
+use lib.ListN.{length}
+use Rattle.text.specs.Words.{hexDone}
+use Rattle.text.proofs.Runs.{Come, come-none, come-next, come-whole, hex-whole}
 use Rattle.text.proofs.words.hex_of.Statement.{statement}
 use Rattle.text.proofs.words.hex_of.Tie as tie
-use Rattle.text.proofs.words.hex_of.Reads as reads
-use Rattle.text.proofs.words.hex_of.Lts as lts
-use Rattle.text.proofs.words.hex_done.Reads as hex-done-reads
-use Rattle.text.proofs.words.hex_step.Reads as hex-step-reads
-use Rattle.text.proofs.words.no_digits.Reads as no-digits-reads
 
 abbrev Inv-loop : tie.InvT-loop
-Inv-loop word run₀ k₀ k-end run k = ?
+Inv-loop word run₀ k₀ k-end run k = (k ≤ length word) × Come 16 word run k
 
 abbrev μ-loop : tie.MeasureT-loop
-μ-loop word run₀ k₀ k-end run k = ?
+μ-loop word run₀ k₀ k-end run k = length word - k
 
--- src/words.rt:109:9
 no-digits-requires : tie.Need-no-digits-requires Inv-loop μ-loop
-no-digits-requires c κs = ?
+no-digits-requires c κs = search needs
 
--- src/words.rt:110:5
 loop-holds : tie.Need-loop-holds Inv-loop μ-loop
-loop-holds c = ?
+loop-holds c = (omega arith, come-none _ _ _ (c .no-digits .ensures))
 
--- src/words.rt:111:29
 shared-slice-read-hex-step : tie.Need-shared-slice-read-hex-step Inv-loop μ-loop
-shared-slice-read-hex-step c = ?
+shared-slice-read-hex-step c = search needs
 
--- src/words.rt:111:9
 hex-step-requires : tie.Need-hex-step-requires Inv-loop μ-loop
-hex-step-requires c κs = ?
+hex-step-requires c κs = search needs
 
--- src/words.rt:110:9
 add-k : tie.Need-add-k Inv-loop μ-loop
-add-k c = ?
+add-k c = search needs
 
--- src/words.rt:110:5
 loop-less : tie.Need-loop-less Inv-loop μ-loop
-loop-less c = ?
+loop-less c = search needs
 
--- src/words.rt:110:5
 loop-again : tie.Need-loop-again Inv-loop μ-loop
-loop-again c = ?
+loop-again c = (omega arith, come-next _ _ _ _ _ (lit< tt) (omega arith) (c .before .before .before .loop .inv .1) (c .hex-step .ensures))
 
--- src/words.rt:113:5
 hex-done-requires : tie.Need-hex-done-requires Inv-loop μ-loop
-hex-done-requires c κs = ?
+hex-done-requires c κs = search needs
 
--- src/words.rt:106:1
 returns : tie.Need-returns Inv-loop μ-loop
-returns c = ?
+returns c = c .hex-done .ensures ∙ ap hexDone (come-whole 16 _ _ _ (omega arith) (c .before .before .loop .inv .1)) ∙ hex-whole _
 
 pub hex-of-spec : {M : Type 1} → statement M
 hex-of-spec =
