@@ -4,3 +4,4 @@ pub mod Points
 pub mod Carries
 pub mod Range
 pub mod Product
+pub mod Starts

@@ -1,29 +1,32 @@
+-- `interpolation::inner_of` meets its contract. Assumes nothing.
+use mathlib.Core.Path.{sym, subst}
 use borrow.Author.Needs.{needs}
+use lib.Dec.{T}
+use lib.IntN.{pos}
+use lib.Ieee.{Float, fin, binary64, fits, lt, le}
+use mathlib.Core.Bool.{true, false}
+use Rattle.whole.specs.declared.Parts.{Parts}
+use Rattle.interpolation.proofs.Starts.{floor-cast, inner-is}
 use Rattle.interpolation.proofs.inner_of.Statement.{statement}
 use Rattle.interpolation.proofs.inner_of.Tie as tie
-use Rattle.interpolation.proofs.inner_of.Reads as reads
-use Rattle.interpolation.proofs.inner_of.Lts as lts
-use Rattle.std.proofs.num.nearest_u64_to_f64.Reads as nearest-u64-to-f64-reads
-use Rattle.std.proofs.num.truncating_f64_to_i64.Reads as truncating-f64-to-i64-reads
-use Rattle.whole.proofs.split.Reads as split-reads
 
--- src/lib.rt:82:9
 split-requires : tie.Need-split-requires
 split-requires c κs = search needs
 
--- src/lib.rt:83:9
 truncating-f64-to-i64-requires : tie.Need-truncating-f64-to-i64-requires
-truncating-f64-to-i64-requires c κs = ?
+truncating-f64-to-i64-requires c κs =
+    let a = c .before in
+    let w = floor-cast (a .args .t) (a .args .factor) (subst T (sym (a .good .0 .1)) tt) (a .pre .0) (a .pre .1) in
+    subst (λ (s : Parts). T (le (fin true 1 (pos 63)) (s .floor)) × T (lt (s .floor) (fin false 1 (pos 63)))) (sym (c .split .ensures)) (w .0, w .1)
 
--- src/lib.rt:84:28
 nearest-u64-to-f64-requires : tie.Need-nearest-u64-to-f64-requires
 nearest-u64-to-f64-requires c κs = search needs
 
--- src/lib.rt:78:1
 returns : tie.Need-returns
-returns c = ?
+returns c =
+    let a = c .before .before .before .before in
+    inner-is (a .args .t) (a .args .factor) (subst T (sym (a .good .0 .1)) tt) (a .pre .0) (a .pre .1) _ _ _
+    (c .before .before .before .split .ensures) (c .before .before .truncating-f64-to-i64 .ensures) (c .before .nearest-u64-to-f64 .ensures)
 
 pub inner-of-spec : {M : Type 1} → statement M
-inner-of-spec =
-    tie.close
-    (tie.spec split-requires truncating-f64-to-i64-requires nearest-u64-to-f64-requires returns)
+inner-of-spec = tie.close (tie.spec split-requires truncating-f64-to-i64-requires nearest-u64-to-f64-requires returns)
