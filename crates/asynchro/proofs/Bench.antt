@@ -5,7 +5,7 @@ use mathlib.Core.Path.{_≡_, refl}
 use Prim.Native.Nat.{ℕ}
 use lib.Ieee.{Float, add, sub, mul, div, neg, lt, eq, le, ofInt, ofBits}
 use Rattle.exact.specs.Doubles.{_/f_, count, oneF, halfF}
-use Rattle.error.specs.Refusals.{Said, given, refused, unless}
+use Rattle.error.specs.Refusals.{given, refused, unless}
 use Rattle.whole.specs.Rounded.{madeWhole}
 use Rattle.asynchro_fast.specs.declared.PolynomialDegree.{PolynomialDegree}
 use Rattle.asynchro_fast.specs.declared.PolynomialDegree.the-variants.{Nearest, Linear, Cubic, Quintic, Septic}

@@ -1,15 +1,16 @@
 -- What an accepted call leaves passes the StateRecord test. Assumes nothing.
 use mathlib.Core.Bool.{Bool, true, false, cond, _&&_, false≢true}
 use mathlib.Core.List.{List}
-use mathlib.Core.Path.{_≡_, refl, sym, ap, _∙_, subst}
+use mathlib.Core.Path.{_≡_, refl, subst}
 use Prim.Native.Nat.{ℕ, _≤_, zero-le}
 use native.Mathlib.Nat.{le-refl, le-trans}
 use native.Mathlib.Omega.{arith}
 use borrow.Author.Tests.{leb-true, le-leb, eq-eqb}
-use lib.Dec.{leb, lit≤}
+use lib.Dec.{leb}
 use lib.Ieee.{Float}
 use Rattle.exact.specs.Doubles.{aboveZero, atLeastOne, _*f_, _/f_}
 use Rattle.error.specs.Refusals.{Said, given, refused, unless}
+use Rattle.whole.proofs.Sizes.{both}
 use Rattle.asynchro_fast.specs.declared.PolynomialDegree.{PolynomialDegree}
 use Rattle.asynchro_fast.specs.Degrees.{pointsOf}
 use Rattle.asynchro.specs.declared.sizes.FixedAsync.{FixedAsync}
@@ -17,13 +18,13 @@ use Rattle.asynchro.specs.declared.sizes.FixedAsync.the-variants.{Input,
 use Rattle.asynchro.specs.declared.sizes.Size.{Size}
 use Rattle.asynchro.specs.declared.sizes.Size.the-variants.{Frames, TooLarge}
 use Rattle.asynchro.specs.declared.record.State.{State}
-use Rattle.asynchro.specs.Bounds.{isRatio, isChannels, isChunk, isSize, isIndex}
-use Rattle.asynchro.specs.Sizes.{sized, sizeOfCount, maxInput, maxOutput, isFrames, framesOf, sizeIs, sizeHolds}
-use Rattle.asynchro.specs.Record.{inputOf, outputOf, maxInputOf, maxOutputOf, countsHold, ratiosHold, maximaHold, isState, withSizes, updateLengths}
+use Rattle.asynchro.specs.Bounds.{isRatio, isChannels, isChunk, isSize}
+use Rattle.asynchro.specs.Sizes.{sized, maxInput, maxOutput, isFrames, framesOf, sizeIs, sizeHolds}
+use Rattle.asynchro.specs.Record.{inputOf, outputOf, maxInputOf, maxOutputOf, countsHold, maximaHold, isState, withSizes, updateLengths}
 use Rattle.asynchro.specs.Calls.{endOf, freshState, withFill, filled, firstLengths, construct, relativeHolds, withRatio, applied, setRatio, setRelative, withChunk, chunked, setChunk}
-use Rattle.asynchro.proofs.Points.{points-few}
+use Rattle.asynchro.proofs.Points.{points-between}
 use Rattle.asynchro.proofs.Start.{start-inside}
-use Rattle.asynchro.proofs.Valid.{both, join, Ready, Needed, tests, passes, valid}
+use Rattle.asynchro.proofs.Valid.{join, Ready, Needed, tests, passes, valid}
 
 -- a ladder that gives passed its test, and went on
 pub accepted : {A : Type 0} (b : Bool) (n : ℕ) (vs : List Float) (next : Said A) (a : A) → unless b n vs next ≡ given a → (b ≡ true) × (next ≡ given a)
@@ -128,7 +129,7 @@ fresh-ready r m d c ch f hm hc hr hch x =
       ratios = join (join (join hr hr) hr) hm;
       maxima = x;
       fill = none-held (maxInputOf s) (y .0);
-      index = start-inside (pointsOf d) (omega (arith, points-few d));
+      index = start-inside (pointsOf d) (omega (arith, points-between d .1));
     }
 
 -- the fill is the needed input, which the maximum holds

@@ -5,5 +5,6 @@ pub mod Points
 pub mod Start
 pub mod Valid
 pub mod Keeps
+pub mod Delay
 pub mod Settled
 pub mod Bench

@@ -1,14 +1,14 @@
 -- What a record that passes the StateRecord test is known to be. Assumes nothing.
 use mathlib.Core.Bool.{Bool, true, false, _&&_, false≢true}
-use mathlib.Core.Path.{_≡_, refl, sym, ap, _∙_}
+use mathlib.Core.Path.{_≡_, refl, ap}
 use Prim.Native.Nat.{ℕ, _*_, _/_, _≤_}
 use native.Mathlib.Nat.{le-trans}
 use borrow.Author.Tests.{leb-true, eqb-true}
 use lib.Dec.{leb, lit≤}
-use lib.IntN.{ℤ}
 use lib.Ieee.{Float, nan, inf, fin, up, down}
 use Rattle.exact.specs.Doubles.{_+f_, _*f_, _/f_, count, atLeastOne}
 use Rattle.whole.specs.Rounded.{ceilOf}
+use Rattle.whole.proofs.Sizes.{both}
 use Rattle.asynchro.specs.declared.sizes.FixedAsync.{FixedAsync}
 use Rattle.asynchro.specs.declared.sizes.FixedAsync.the-variants.{Input, Output}
 use Rattle.asynchro.specs.declared.sizes.Size.{Size}
@@ -18,11 +18,7 @@ use Rattle.asynchro.specs.Bounds.{isRatio, isChannels, isChunk, isSize, 
 use Rattle.asynchro.specs.Sizes.{twoF, sized, sizeOf, sizeOfCount, inputFloat, outputFloat, neededInput, neededOutput, maxInput, isFrames, framesOf, sizeIs, sizeHolds}
 use Rattle.asynchro.specs.Record.{pointsIn, stepNow, stepThen, inputOf, outputOf, maxInputOf, maxOutputOf, countsHold, ratiosHold, maximaHold, sizesHold, isState}
 
--- ---- tests joined by `&&`
-pub both : (a b : Bool) → (a && b) ≡ true → (a ≡ true) × (b ≡ true)
-both true b h = (refl, h)
-both false b h = absurd (false≢true h)
-
+-- two tests joined
 pub join : {a b : Bool} → a ≡ true → b ≡ true → (a && b) ≡ true
 join {a} {b} h k = rw (h, k)
 

@@ -1,5 +1,5 @@
 -- The calls on a ratio state, each as one outcome for every input: document 01's refusals in its order, then the record. Definitions only.
-use mathlib.Core.Bool.{Bool, true, false, cond, _&&_}
+use mathlib.Core.Bool.{Bool, cond, _&&_}
 use mathlib.Core.List.{[], _∷_}
 use Prim.Native.Nat.{ℕ}
 use lib.Dec.{leb}
@@ -16,8 +16,8 @@ use Rattle.asynchro.specs.declared.Count.{Count}
 use Rattle.asynchro.specs.declared.Count.the-variants as counted
 use Rattle.asynchro.specs.declared.Outcome.{Outcome}
 use Rattle.asynchro.specs.Bounds.{isRatio, isChannels}
-use Rattle.asynchro.specs.Sizes.{startOf, isFrames, framesOf, delayOf}
-use Rattle.asynchro.specs.Record.{pointsIn, maxInputOf, maxOutputOf, maximaHold, isState, changed, updateLengths}
+use Rattle.asynchro.specs.Sizes.{startOf}
+use Rattle.asynchro.specs.Record.{maximaHold, isState, changed, updateLengths}
 
 -- What a call on a record leaves: the record, and what it says.
 pub record Result (A : Type 0) : Type 0 where

@@ -1,5 +1,5 @@
 -- The state record: its sizes, the StateRecord test, and the one end of every call. Definitions only.
-use mathlib.Core.Bool.{Bool, true, false, _&&_}
+use mathlib.Core.Bool.{Bool, _&&_}
 use mathlib.Core.List.{[]}
 use Prim.Native.Nat.{ℕ}
 use lib.Dec.{leb}

@@ -4,7 +4,7 @@ use mathlib.Core.Bool.{Bool, true, false}
 use Prim.Native.Nat.{ℕ, _+_, _*_, _/_}
 use lib.Dec.{leb, eqb}
 use lib.Ieee.{Float, nan, inf, fin, up, down, neg, binary64, ofBits}
-use Rattle.exact.specs.Doubles.{_+f_, _-f_, _*f_, _/f_, count, oneF, halfF}
+use Rattle.exact.specs.Doubles.{_+f_, _-f_, _*f_, _/f_, count, halfF}
 use Rattle.whole.specs.Rounded.{floorOf, ceilOf}
 use Rattle.asynchro.specs.declared.sizes.Size.{Size}
 use Rattle.asynchro.specs.declared.sizes.Size.the-variants.{Frames, TooLarge}

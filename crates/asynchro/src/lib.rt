@@ -57,6 +57,7 @@ pub fn end_of(s: State, made: Made) -> Outcome
     }
 }
 
+// The record before its sizes are worked out.
 fn fresh_state(
     r: f64,
     m: f64,
@@ -130,6 +131,7 @@ pub fn new_poly(
     first_lengths(fresh_state(r, m, degree, chunk, channels, fixed))
 }
 
+// 1/m <= rel <= m; false for a NaN.
 fn relative_ratio_in_bounds(m: f64, rel: f64) -> bool
     ensures { λ b. ⌜ b ≡ relativeHolds m rel ⌝ }
 {
@@ -157,7 +159,7 @@ fn apply_ratio(s: State, accepted: bool, r: f64, ramp: bool) -> Made
     record::update_lengths(next)
 }
 
-// An absolute setting.
+// An absolute setting: refusals 10, 4, 5, 6.
 pub fn set_resample_ratio(s: State, r: f64, ramp: bool) -> Outcome
     ensures { λ o. ⌜ resultOf o ≡ setRatio s r ramp ⌝ }
 {
@@ -165,7 +167,7 @@ pub fn set_resample_ratio(s: State, r: f64, ramp: bool) -> Outcome
     end_of(s, apply_ratio(s, accepted, r, ramp))
 }
 
-// A relative setting.
+// A relative setting, in the same order.
 pub fn set_resample_ratio_relative(s: State, rel: f64, ramp: bool) -> Outcome
     ensures { λ o. ⌜ resultOf o ≡ setRelative s rel ramp ⌝ }
 {
@@ -174,6 +176,7 @@ pub fn set_resample_ratio_relative(s: State, rel: f64, ramp: bool) -> Outcome
     end_of(s, apply_ratio(s, accepted, r, ramp))
 }
 
+// The chunk n, which stays at or below the construction chunk.
 fn apply_chunk(s: State, n: usize) -> Made
     ensures { λ t. ⌜ saidMade t ≡ chunked s n ⌝ }
 {
@@ -183,11 +186,12 @@ fn apply_chunk(s: State, n: usize) -> Made
     if !((1 <= n) & (n <= s.chunk0)) {
         return Made::Refused(Refusal::InvalidChunkSize);
     }
-    let mut next = s;
-    next.chunk = n;
-    record::update_lengths(next)
+    let mut resized = s;
+    resized.chunk = n;
+    record::update_lengths(resized)
 }
 
+// A chunk setting: refusals 10, 3, 6.
 pub fn set_chunk_size(s: State, n: usize) -> Outcome
     ensures { λ o. ⌜ resultOf o ≡ setChunk s n ⌝ }
 {
@@ -205,42 +209,49 @@ fn asked_count(s: State, n: usize) -> Count
     }
 }
 
+// The input frames that the next block needs.
 pub fn input_frames_next(s: State) -> Count
     ensures { λ r. ⌜ saidCount r ≡ asked s (s .input) ⌝ }
 {
     asked_count(s, s.input)
 }
 
+// The output frames that the next block gives.
 pub fn output_frames_next(s: State) -> Count
     ensures { λ r. ⌜ saidCount r ≡ asked s (s .output) ⌝ }
 {
     asked_count(s, s.output)
 }
 
+// The maximum input, from the construction values.
 pub fn input_frames_max(s: State) -> Count
     ensures { λ r. ⌜ saidCount r ≡ asked s (framesOf (maxInputOf s)) ⌝ }
 {
     asked_count(s, sizes::frames_of(record::max_input_of(s)))
 }
 
+// The maximum output, from the construction values.
 pub fn output_frames_max(s: State) -> Count
     ensures { λ r. ⌜ saidCount r ≡ asked s (framesOf (maxOutputOf s)) ⌝ }
 {
     asked_count(s, sizes::frames_of(record::max_output_of(s)))
 }
 
+// The channel count.
 pub fn nbr_channels(s: State) -> Count
     ensures { λ r. ⌜ saidCount r ≡ asked s (s .channels) ⌝ }
 {
     asked_count(s, s.channels)
 }
 
+// The output delay in frames, L*r1/2 truncated.
 pub fn output_delay(s: State) -> Count
     ensures { λ r. ⌜ saidCount r ≡ asked s (framesOf (delayOf (pointsIn s) (s .current))) ⌝ }
 {
     asked_count(s, sizes::frames_of(sizes::delay_of(record::points_in(s), s.current)))
 }
 
+// The current ratio.
 pub fn resample_ratio(s: State) -> Answer
     ensures { λ r. ⌜ saidAnswer r ≡ asked s (s .current) ⌝ }
 {

@@ -1,17 +1,17 @@
 -- A channel's share of the output after the run: its frames, and what stays. Channels are apart. Assumes nothing.
-use mathlib.Core.Bool.{Bool, true, false}
+use mathlib.Core.Bool.{true, false}
 use mathlib.Core.List.{List, _++_}
-use mathlib.Core.Path.{_≡_, refl, sym, ap, _∙_}
+use mathlib.Core.Path.{_≡_, sym, ap, _∙_}
 use Prim.Native.Nat.{ℕ, _+_, _*_, _≤_, _<_}
 use native.Mathlib.Omega.{arith}
 use lib.Ieee.{Float}
 use lib.ListN.{length, getD, take, drop, List·getD-append}
 use lib.Seq.{paste, length-paste-head, length-take-le, drop-paste, take-append-le, take-at, getD-append-add, getD-take}
 use Rattle.asynchro_fast.specs.declared.PolynomialDegree.{PolynomialDegree}
-use Rattle.area.specs.Parts.{partOf, eachPart}
-use Rattle.area.specs.Mask.{isOn, whereOn}
+use Rattle.area.specs.Parts.{partOf}
+use Rattle.area.specs.Mask.{isOn}
 use Rattle.area.proofs.Switched.{where-on, where-off}
-use Rattle.area.proofs.Parts.{part-long, part-each, each-apart}
+use Rattle.area.proofs.Parts.{part-long, part-each}
 use Rattle.frames.specs.Run.{framesTo, ranIn, ranAll}
 use Rattle.frames.proofs.Frames.{frameOf, frames-long, frame-at}
 use Rattle.frames.proofs.Run.{ran-keeps}

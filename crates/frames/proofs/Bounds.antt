@@ -17,13 +17,11 @@ use Rattle.exact.specs.Exact.{exact, Number}
 use Rattle.exact.specs.Doubles.{_+f_}
 use Rattle.whole.specs.Rounded.{wholeF, madeWhole, partDiv, overDiv, floorOf}
 use Rattle.whole.specs.Numbers.{Greatest}
-use Rattle.whole.proofs.Held.{Next, next-value, wholeF-value}
+use Rattle.whole.proofs.Held.{next-value, wholeF-value}
 use Rattle.whole.proofs.Divisions.{part-next, over-next}
 use Rattle.whole.proofs.Units.{whole-exact}
 use Rattle.whole.proofs.Values.{floor-greatest}
-use Rattle.frames.specs.declared.Place.{Place}
-use Rattle.frames.specs.declared.Place.the-variants.{At, Out}
-use Rattle.frames.specs.declared.Moment.{Moment}
+use Rattle.frames.specs.declared.Place.the-variants.{At}
 use Rattle.frames.specs.Path.{pathAt}
 use Rattle.frames.specs.Places.{within, placeFrom, placeOf, isAt, allReach}
 use Rattle.frames.proofs.Path.{reach-each}

@@ -5,12 +5,11 @@ use Prim.Native.Nat.{ℕ, zero, suc, _+_, _-_, _*_, _/_, _^_, _≤_, _<_}
 use native.Mathlib.Nat.{zero-add, sub-zero, zero-mul, mul-one, zero-div, mul-pos, min-eq-left, div-lt-iff-lt-mul, le-div-iff-mul-le}
 use native.Mathlib.Omega.{arith}
 use borrow.Author.Tests.{ltb-true, ltb-false, eqb-true, le-leb, lt-leb}
-use lib.Dec.{T, eqb, leb, ltb, lt→ltb}
+use lib.Dec.{T, eqb, leb, lt→ltb}
 use lib.IntN.{ℤ, pos}
 use lib.Ieee.{Float, nan, inf, fin, binary64, up, down, neg, lt, eq, le, ofBits, toUnsigned}
 use lib.Ieee.Fits.{up-pos, down-pos}
 use Rattle.exact.specs.Doubles.{zeroF}
-use Rattle.frames.specs.declared.Place.{Place}
 use Rattle.frames.specs.declared.Place.the-variants.{At, Out}
 use Rattle.frames.specs.Places.{within, placeFrom}
 
@@ -28,9 +27,11 @@ pub record Cut (x : Float) (n : ℕ) : Type 0 where
   pub is : toUnsigned 64 x ≡ n
   pub small : n < 131072
 
-cut : (m : ℕ) (e : ℤ) → m * up e < 131072 * down e → Cut (fin false m e) (m * up e / down e)
-unfolding toUnsigned lt
-cut m e h =
+-- below 2 ^ 17, and past it
+cut : (m : ℕ) (e : ℤ) → lt (fin false m e) bigF ≡ true → Cut (fin false m e) (m * up e / down e)
+unfolding toUnsigned lt ofBits
+cut m e q =
+    let h : m * up e < 131072 * down e = simp mul-one at (ltb-true (m * up e * 1) (131072 * down e) q) in
     let l : m * up e / down e < 131072 = div-lt-iff-lt-mul (down-pos e) .1 h in
     record {
       asks = (
@@ -41,6 +42,11 @@ cut m e h =
       small = l;
     }
 
+past : (m : ℕ) (e : ℤ) → lt (fin false m e) bigF ≡ false → 131072 ≤ m * up e / down e
+unfolding lt ofBits
+past m e q = le-div-iff-mul-le (down-pos e) .1 (simp mul-one at (ltb-false (m * up e * 1) (131072 * down e) q))
+
+-- the zero with a sign
 cut-zero : (e : ℤ) → Cut (fin true zero e) 0
 unfolding toUnsigned lt
 cut-zero e =
@@ -74,7 +80,7 @@ above (inf false) p q = absurd (false≢true q)
 above (fin false m e) p q =
     record {
       n = m * up e / down e;
-      cut = cut m e (simp mul-one at (ltb-true (m * up e * 1) (131072 * down e) q));
+      cut = cut m e q;
       place = λ shift last frac. refl;
     }
 above (fin true zero e) p q =
@@ -96,10 +102,7 @@ pub place-high : (shift last : ℕ) (x frac : Float) → le zeroF x ≡ true →
 unfolding placeFrom lt eq le ofBits
 place-high shift last nan frac p q l = refl
 place-high shift last (inf s) frac p q l = refl
-place-high shift last (fin false m e) frac p q l =
-    let h : 131072 * down e ≤ m * up e = simp mul-one at (ltb-false (m * up e * 1) (131072 * down e) q) in
-    let k : 131072 ≤ m * up e / down e = le-div-iff-mul-le (down-pos e) .1 h in
-    rw (lt-leb (m * up e / down e + shift) last (omega arith))
+place-high shift last (fin false m e) frac p q l = rw (lt-leb (m * up e / down e + shift) last (omega (arith, past m e q)))
 place-high shift last (fin true m e) frac p q l = absurd (let h = ltb-false 0 (m * up e * 1 + 131072 * down e) q in omega (arith, down-pos e))
 
 -- z is -x, above 0 and below 2 ^ 17
@@ -117,7 +120,7 @@ below (fin false m e) p q = absurd (false≢true p)
 below (fin true m e) p q =
     record {
       n = m * up e / down e;
-      cut = cut m e (simp mul-one at (ltb-true (m * up e * 1) (131072 * down e) q));
+      cut = cut m e q;
       place = λ shift last frac. refl;
     }
 
@@ -142,10 +145,7 @@ unfolding placeFrom neg lt ofBits
 place-low shift last nan frac p q l = refl
 place-low shift last (inf s) frac p q l = refl
 place-low shift last (fin false m e) frac p q l = absurd (false≢true p)
-place-low shift last (fin true m e) frac p q l =
-    let h : 131072 * down e ≤ m * up e = simp mul-one at (ltb-false (m * up e * 1) (131072 * down e) q) in
-    let k : 131072 ≤ m * up e / down e = le-div-iff-mul-le (down-pos e) .1 h in
-    rw (lt-leb (m * up e / down e) shift (omega arith))
+place-low shift last (fin true m e) frac p q l = rw (lt-leb (m * up e / down e) shift (omega (arith, past m e q)))
 
 -- neither: no number
 pub place-none : (shift last : ℕ) (x frac : Float) → le zeroF x ≡ false → lt zeroF (neg x) ≡ false → Out ≡ placeFrom shift last x frac

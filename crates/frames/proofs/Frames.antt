@@ -1,8 +1,8 @@
 -- The frames of one channel: how many there are, what each is, and one more. Assumes nothing.
-use mathlib.Core.List.{List, [], _∷_, _++_}
+use mathlib.Core.List.{List, []}
 use mathlib.Core.Logic.{⊎-elim}
-use mathlib.Core.Path.{_≡_, refl, sym, _∙_}
-use Prim.Native.Nat.{ℕ, zero, suc, _+_, _≤_, _<_}
+use mathlib.Core.Path.{_≡_, refl, _∙_}
+use Prim.Native.Nat.{ℕ, zero, suc, _+_, _<_}
 use native.Mathlib.Nat.{not-suc-le-zero, eq-or-lt-of-le, le-of-suc-le-suc}
 use native.Mathlib.Numerals.{add-one}
 use native.Mathlib.Omega.{arith}
@@ -10,7 +10,6 @@ use lib.Ieee.{Float, nan}
 use lib.ListN.{length, getD, take, set, length-append, List·getD-append}
 use lib.Seq.{paste, paste-suc, take-append-le, getD-at}
 use Rattle.asynchro_fast.specs.declared.PolynomialDegree.{PolynomialDegree}
-use Rattle.frames.specs.declared.Moment.{Moment}
 use Rattle.frames.specs.Path.{pathAt}
 use Rattle.frames.specs.Places.{placeOf, shiftOf, lastOf}
 use Rattle.frames.specs.Run.{valueAt, framesTo}

@@ -9,7 +9,7 @@ use lib.Ieee.{Float}
 use lib.ListN.{length, take, drop, set, length-append, length-drop, length-set}
 use lib.Seq.{paste, paste-zero, length-paste, length-take-le}
 use Rattle.asynchro_fast.specs.declared.PolynomialDegree.{PolynomialDegree}
-use Rattle.area.specs.Parts.{partOf, eachPart, onePart}
+use Rattle.area.specs.Parts.{partOf}
 use Rattle.area.specs.Mask.{isOn, whereOn}
 use Rattle.area.proofs.Switched.{where-long, where-same}
 use Rattle.area.proofs.Parts.{Keeps, part-long, length-each, each-none, each-same, each-each}

@@ -5,3 +5,6 @@ pub mod Carries
 pub mod Range
 pub mod Product
 pub mod Starts
+pub mod Answers
+pub mod Settled
+pub mod Examples

@@ -6,14 +6,9 @@ use native.Mathlib.Omega.{arith}
 use lib.IntN.{ℤ, pos, negsuc, _+ℤ_, _*ℤ_}
 use Rattle.exact.specs.Whole.{Whole, _⊕_, _⊙_, Same}
 use Rattle.exact.specs.Integers.{Is}
-use Rattle.interpolation.specs.Grid.{pointOf}
+use Rattle.interpolation.specs.Grid.{Numbered, pointOf}
 use Rattle.interpolation.specs.declared.Point.{Point}
 use Rattle.interpolation.proofs.Integers.{pairOf, pair-is, same-int, is-same, at-is}
-
--- the point p is number q of the grid
-pub record Numbered (factor : ℕ) (q : ℤ) (p : Point) : Type 0 where
-  pub equation : p .index *ℤ pos factor +ℤ pos (p .subindex) ≡ q
-  pub inside : p .subindex < factor
 
 pub point-equation : (factor : ℕ) (q : ℤ) → 0 < factor → Numbered factor q (pointOf factor q)
 unfolding pointOf

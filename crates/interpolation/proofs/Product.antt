@@ -2,7 +2,7 @@
 use mathlib.Core.Bool.{Bool, true, false, true≢false}
 use mathlib.Core.Path.{_≡_, refl, sym, ap, _∙_, subst}
 use Prim.Native.Nat.{ℕ, zero, suc, _+_, _*_, _/_, _^_, _≤_, _<_}
-use native.Mathlib.Nat.{lt-of-le-of-lt, lt-of-mul-lt-mul-right, le-of-mul-le-mul-right, mul-le-mul-right, mul-lt-mul-of-pos-right, mul-pos, mul-one, zero-mul, zero-lt-suc}
+use native.Mathlib.Nat.{le-of-suc-le-suc, lt-of-le-of-lt, lt-of-mul-lt-mul-right, le-of-mul-le-mul-right, mul-le-mul-right, mul-lt-mul-of-pos-right, mul-pos, mul-one, zero-mul, zero-lt-suc}
 use native.Mathlib.Omega.{arith}
 use lib.Dec.{T, lit≤}
 use lib.IntN.{ℤ, pos}
@@ -14,7 +14,7 @@ use lib.Ieee.Order.{round-mono}
 use lib.Ieee.Scale.{finite, grid, round-same}
 use lib.Pow.{pow-pos, pow-mono, pow-add}
 use Rattle.exact.specs.Doubles.{count, _*f_}
-use Rattle.exact.specs.Whole.{Whole, signed, AtMost, Below}
+use Rattle.exact.specs.Whole.{Whole, signed, _⊙_, Same, Less, AtMost, Below}
 use Rattle.exact.specs.Exact.{mag, exact, Number}
 use Rattle.exact.proofs.Exact.{mag-exact, finite-of}
 use Rattle.exact.proofs.Order.{le-exact}
@@ -22,7 +22,8 @@ use Rattle.exact.proofs.Products.{int-exact}
 use Rattle.exact.proofs.Rounding.{round-near, round-finite}
 use Rattle.whole.specs.Numbers.{Counted, Greatest, Nearest}
 use Rattle.whole.specs.Rounded.{floorOf, roundOf}
-use Rattle.whole.proofs.Counts.{floor-counted, round-counted, counted-unsigned}
+use Rattle.whole.proofs.Casts.{counted-unsigned}
+use Rattle.whole.proofs.Counts.{floor-counted, round-counted, counted-below}
 use Rattle.whole.proofs.Values.{floor-greatest, round-nearest}
 
 -- v lies from 0 to n ones, of U units each
@@ -124,8 +125,18 @@ pub whole-cast : (n : ℕ) (y : Float) → WholeUpTo n y → T (lt (fin true 1 (
 whole-cast n y w =
     let c = w .counted in
     let a = counted-unsigned 21 y c (lit≤ tt) (w .upTo .atLeast) in
-    (a .0, a .1, rw (a .2) (ones-le (2 ^ low binary64) (pow-pos (low binary64)) (c .sign) (c .ones) (subst (UpTo (2 ^ low binary64) n) (c .value) (w .upTo))))
+    (a .0, a .1, rw (a .2) (le-of-suc-le-suc (counted-below 21 (suc n) y c (w .upTo .atLeast) (under (2 ^ low binary64) (exact binary64 y) (pow-pos (low binary64)) (w .upTo)))))
   where
-    ones-le : (U : ℕ) → 0 < U → (s : Bool) (k : ℕ) → UpTo U n (signed s (k * U)) → k ≤ n
-    ones-le U P false k u = le-of-mul-le-mul-right {m = k} {n = n} {k = U} (omega (arith, u .atMost)) P
-    ones-le U P true k u = omega (arith, le-of-mul-le-mul-right {m = k} {n = 0} {k = U} (omega (arith, u .atLeast)) P)
+    under : (U : ℕ) (v : Whole) → 0 < U → UpTo U n v → Less v (suc n * U, 0)
+    under U v P u = omega (arith, u .atMost)
+
+-- and nothing is cut
+pub whole-value : (n : ℕ) (y : Float) → WholeUpTo n y → Same (exact binary64 y) (2 ^ low binary64 ⊙ (toUnsigned 64 y, 0))
+whole-value n y w =
+    let c = w .counted in
+    rw (counted-unsigned 21 y c (lit≤ tt) (w .upTo .atLeast) .2) (subst (λ (v : Whole). Same v (2 ^ low binary64 ⊙ (c .ones, 0))) (sym (c .value))
+    (plain-value (2 ^ low binary64) (c .sign) (c .ones) (subst (AtMost (0, 0)) (c .value) (w .upTo .atLeast))))
+  where
+    plain-value : (U : ℕ) (s : Bool) (k : ℕ) → AtMost (0, 0) (signed s (k * U)) → Same (signed s (k * U)) (U ⊙ (k, 0))
+    plain-value U false k h = omega arith
+    plain-value U true k h = omega arith

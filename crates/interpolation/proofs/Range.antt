@@ -3,6 +3,7 @@ use mathlib.Core.Bool.{Bool, true, false, not, _&&_}
 use mathlib.Core.Path.{_≡_, refl, sym, ap, _∙_, subst}
 use Prim.Native.Nat.{ℕ, _+_, _*_, _^_, _≤_, _<_}
 use native.Mathlib.Omega.{arith}
+use borrow.Author.Tests.{le-leb}
 use lib.Dec.{T, leb, leb→le}
 use lib.IntN.{ℤ, pos}
 use lib.Ieee.{Float, nan, inf, fin, binary64, low, fits, lt, neg, ofBits}
@@ -26,6 +27,12 @@ in-range least t factor h =
     is-true : (b : Bool) → T b → b ≡ true
     is-true true t = refl
     is-true false t = absurd t
+
+-- from 3 is from 1 too
+pub in-range-one : (least : ℕ) (t : Float) (factor : ℕ) → 0 < least → inRange least t factor ≡ true → inRange 1 t factor ≡ true
+in-range-one least t factor P h =
+    let r = in-range least t factor h in
+    rw (r .0, le-leb 1 factor (omega arith), le-leb factor 1048576 (r .2))
 
 -- a number, below 2 ^ 52 in size
 finite-between : (s r : Bool) (m n : ℕ) (e d : ℤ) (t : Float) → T (lt (fin s m e) t) → T (lt t (fin r n d)) → T (finite t)

@@ -1,7 +1,7 @@
 -- Where q lies, for a t below 2 ^ 52 in size: what the casts to whole numbers ask, and how far the start can be. Assumes nothing.
 use mathlib.Core.Bool.{Bool, true, false, cond}
 use mathlib.Core.Path.{_≡_, refl, sym, ap, _∙_, subst}
-use Prim.Native.Nat.{ℕ, zero, suc, _*_, _^_, _≤_}
+use Prim.Native.Nat.{ℕ, zero, suc, _+_, _*_, _^_, _≤_}
 use native.Mathlib.Omega.{arith}
 use lib.Dec.{T, lit≤}
 use lib.IntN.{ℤ, pos, negℤ, natAbs}
@@ -10,24 +10,31 @@ use mir.Syntax.{w64}
 use mir.Val.{toZ, ofZ}
 use mir.ValLaws.{toZ-ofZ}
 use Rattle.exact.specs.Doubles.{count, _*f_}
-use Rattle.exact.specs.Whole.{Whole, AtMost}
+use Rattle.exact.specs.Whole.{Whole, signed, _⊙_, Same, AtMost, Below}
 use Rattle.exact.specs.Exact.{exact, Number}
 use Rattle.whole.specs.Numbers.{Fraction}
 use Rattle.whole.specs.Rounded.{floorOf, roundOf, splitOf}
 use Rattle.whole.specs.declared.Parts.{Parts}
-use Rattle.whole.proofs.Counts.{floor-counted, counted-signed}
+use Rattle.whole.proofs.Casts.{counted-signed}
+use Rattle.whole.proofs.Counts.{floor-counted}
 use Rattle.whole.proofs.Splits.{split-frac}
-use Rattle.interpolation.specs.Grid.{small, innerOf, startOf, Near}
+use Rattle.interpolation.specs.Grid.{inRange, innerOf, startOf, Ready}
 use Rattle.interpolation.specs.declared.Inner.{Inner}
 use Rattle.interpolation.specs.declared.Start.{Start}
-use Rattle.interpolation.proofs.Integers.{abs-fits}
-use Rattle.interpolation.proofs.Range.{small-number}
+use Rattle.interpolation.proofs.Integers.{pairOf, abs-fits}
+use Rattle.interpolation.proofs.Range.{in-range, small-number}
 use Rattle.interpolation.proofs.Product.{UpTo, WholeUpTo, product-up-to, floor-whole, round-whole-up-to, whole-cast}
 
 signed-abs : (s : Bool) (n b : ℕ) → n ≤ b → natAbs (cond s (negℤ (pos n)) (pos n)) ≤ b
 signed-abs false n b h = h
 signed-abs true zero b h = h
 signed-abs true (suc n) b h = h
+
+-- n ones of U units each, with a sign
+ones-value : (U : ℕ) (s : Bool) (n : ℕ) → Same (signed s (n * U)) (U ⊙ pairOf (cond s (negℤ (pos n)) (pos n)))
+ones-value U false n = omega arith
+ones-value U true zero = omega arith
+ones-value U true (suc n) = omega arith
 
 abbrev inner : ℤ → Float → Inner
 inner i p = record { index = i; product = p }
@@ -38,20 +45,28 @@ start i k = record { index = i; parts = k }
 up-to-one : (U : ℕ) (v : Whole) → AtMost (0, 0) v → AtMost v (U, 0) → UpTo U 1 v
 up-to-one U v h k = record { atLeast = h; atMost = omega arith }
 
-module _ (t : Float) (factor : ℕ) (f : T (fits binary64 t)) (h : small t ≡ true) (l : factor ≤ 1048576) where
+module _ (t : Float) (factor : ℕ) (f : T (fits binary64 t)) (h : inRange 1 t factor ≡ true) where
+  number : Number binary64 t × Below (2 ^ (52 + low binary64)) (exact binary64 t)
+  number = small-number t f (in-range 1 t factor h .0)
+
   -- what the cast of floor(t) asks, and its size
   pub floor-cast : T (le (fin true 1 (pos 63)) (floorOf t)) × T (lt (floorOf t) (fin false 1 (pos 63))) × (natAbs (toSigned 63 (floorOf t)) ≤ 4503599627370496)
   floor-cast =
-      let n = small-number t f h in
-      let c = floor-counted 52 t (n .0) (n .1) in
+      let c = floor-counted 52 t (number .0) (number .1) in
       let s = counted-signed 52 (floorOf t) c (lit≤ tt) in
       (s .0, s .1, rw (s .2) (signed-abs (c .sign) (c .ones) 4503599627370496 (c .atMost)))
+
+  -- nothing is cut: the index is the value of floor(t)
+  pub index-value : Same (exact binary64 (splitOf t .floor)) (2 ^ low binary64 ⊙ pairOf (innerOf t factor .index))
+  index-value =
+      let c = floor-counted 52 t (number .0) (number .1) in
+      rw (c .value, counted-signed 52 (floorOf t) c (lit≤ tt) .2) (ones-value (2 ^ low binary64) (c .sign) (c .ones))
 
   -- the inner product lies from 0 to the factor
   pub inner-up-to : Number binary64 (innerOf t factor .product) × UpTo (2 ^ low binary64) factor (exact binary64 (innerOf t factor .product))
   inner-up-to =
-      let r = split-frac t (small-number t f h .0) in
-      product-up-to factor (splitOf t .frac) l (r .number) (up-to-one (2 ^ low binary64) (exact binary64 (splitOf t .frac)) (r .atLeast) (r .atMost))
+      let r = split-frac t (number .0) in
+      product-up-to factor (splitOf t .frac) (in-range 1 t factor h .2) (r .number) (up-to-one (2 ^ low binary64) (exact binary64 (splitOf t .frac)) (r .atLeast) (r .atMost))
 
   -- what the machine has is what the definition says
   index-back : (i : ℤ) → i ≡ innerOf t factor .index → toZ w64 (ofZ w64 i) ≡ innerOf t factor .index
@@ -73,14 +88,14 @@ module _ (t : Float) (factor : ℕ) (f : T (fits binary64 t)) (h : small t ≡ t
         let c = whole-cast factor (how (innerOf t factor .product)) w in
         rw made-whole (c .0, c .1)
 
-    pub start-is : (k : ℕ) → k ≡ toUnsigned 64 x → (start (toZ w64 (ofZ w64 (i .index))) k ≡ startOf how t factor) × Near factor (start (toZ w64 (ofZ w64 (i .index))) k)
+    pub start-is : (k : ℕ) → k ≡ toUnsigned 64 x → (start (toZ w64 (ofZ w64 (i .index))) k ≡ startOf how t factor) × Ready factor (start (toZ w64 (ofZ w64 (i .index))) k)
     start-is k r =
         let c = whole-cast factor (how (innerOf t factor .product)) w in
         let e = ap (λ (z : ℤ). start z k) (index-back (i .index) (ap (λ (i : Inner). i .index) p)) ∙ ap (start (innerOf t factor .index)) (r ∙ ap (toUnsigned 64) made-whole) in
-        (e, subst (Near factor) (sym e) (floor-cast .2, c .2))
+        (e, subst (Ready factor) (sym e) (floor-cast .2, c .2, in-range 1 t factor h .1, in-range 1 t factor h .2))
 
   pub floor-start : WholeUpTo factor (floorOf (innerOf t factor .product))
-  floor-start = floor-whole factor (innerOf t factor .product) l (inner-up-to .0) (inner-up-to .1)
+  floor-start = floor-whole factor (innerOf t factor .product) (in-range 1 t factor h .2) (inner-up-to .0) (inner-up-to .1)
 
   pub round-start : WholeUpTo factor (roundOf (innerOf t factor .product))
-  round-start = round-whole-up-to factor (innerOf t factor .product) l (inner-up-to .0) (inner-up-to .1)
+  round-start = round-whole-up-to factor (innerOf t factor .product) (in-range 1 t factor h .2) (inner-up-to .0) (inner-up-to .1)

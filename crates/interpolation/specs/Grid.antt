@@ -1,7 +1,8 @@
 -- Document 01, "Grid points". Definitions only.
 use mathlib.Core.Bool.{Bool, _&&_}
 use mathlib.Core.List.{List, [], _∷_, map}
-use Prim.Native.Nat.{ℕ, _-_, _/_, _%_, _≤_}
+use mathlib.Core.Path.{_≡_}
+use Prim.Native.Nat.{ℕ, _-_, _/_, _%_, _≤_, _<_}
 use lib.Dec.{leb}
 use lib.IntN.{ℤ, pos, negsuc, natAbs, _+ℤ_, _*ℤ_}
 use lib.Ieee.{Float, binary64, neg, lt, ofBits, toSigned, toUnsigned}
@@ -32,7 +33,12 @@ small t = lt (neg limitF) t && lt t limitF
 abbrev pub inRange : ℕ → Float → ℕ → Bool
 inRange least t factor = small t && leb least factor && leb factor 1048576
 
--- "index*factor+subindex = q" and "every subindex lies in 0..factor-1": the whole part of q / factor, rounded down, and the rest
+-- the point p is number q of the grid: "index*factor+subindex = q", and "every subindex lies in 0..factor-1"
+pub record Numbered (factor : ℕ) (q : ℤ) (p : Point) : Type 0 where
+  pub equation : p .index *ℤ pos factor +ℤ pos (p .subindex) ≡ q
+  pub inside : p .subindex < factor
+
+-- that point: q divided by the factor, rounded down, and what is left over
 unfoldable pub pointOf : ℕ → ℤ → Point
 pointOf factor (pos n) = record { index = pos (n / factor); subindex = n % factor }
 pointOf factor (negsuc n) = record { index = negsuc (n / factor); subindex = factor - 1 - n % factor }
@@ -45,9 +51,9 @@ innerOf t factor = record { index = toSigned 63 (splitOf t .floor); product = sp
 abbrev pub startOf : (Float → Float) → Float → ℕ → Start
 startOf how t factor = record { index = innerOf t factor .index; parts = toUnsigned 64 (how (innerOf t factor .product)) }
 
--- a start is no further off than 2 ^ 52, and has no more parts than a whole time: a fraction of 1.0 gives that many
-abbrev pub Near : ℕ → Start → Type 0
-Near factor s = (natAbs (s .index) ≤ 4503599627370496) × (s .parts ≤ factor)
+-- in range a start is no further off than 2 ^ 52, and has no more parts than a whole time: a fraction of 1.0 gives that many
+abbrev pub Ready : ℕ → Start → Type 0
+Ready factor s = (natAbs (s .index) ≤ 4503599627370496) × (s .parts ≤ factor) × (0 < factor) × (factor ≤ 1048576)
 
 abbrev pub qOf : ℕ → Start → ℤ
 qOf factor s = s .index *ℤ pos factor +ℤ pos (s .parts)

@@ -4,10 +4,10 @@
 use error::Refusal;
 ghost use mathlib.Core.Path.{_≡_};
 ghost use mathlib.Core.Bool.{true};
-ghost use Prim.Native.Nat.{_≤_, _<_};
+ghost use Prim.Native.Nat.{_≤_};
 ghost use lib.IntN.{pos, _+ℤ_, _-ℤ_};
 ghost use Rattle.whole.specs.Rounded.{floorOf, roundOf};
-ghost use Rattle.interpolation.specs.Grid.{small, inRange, pointOf, innerOf, startOf, Near, qOf, saidTimes1, saidTimes2, saidTimes3, saidTimes4, nearest1, nearest2, nearest3, nearest4};
+ghost use Rattle.interpolation.specs.Grid.{inRange, pointOf, innerOf, startOf, Ready, qOf, saidTimes1, saidTimes2, saidTimes3, saidTimes4, nearest1, nearest2, nearest3, nearest4};
 
 // A point of the grid.
 pub struct Point {
@@ -49,6 +49,9 @@ struct Inner {
     product: f64,
 }
 
+// Three and four points take a factor of 3 at least.
+const LEAST: u64 = 3;
+
 // |t| is below 2^52, and the factor from `least` to 2^20. A NaN is not in range.
 fn in_range(t: f64, factor: u64, least: u64) -> bool
     ensures { λ b. ⌜ b ≡ inRange least t factor ⌝ }
@@ -59,7 +62,7 @@ fn in_range(t: f64, factor: u64, least: u64) -> bool
 // The point `ahead` places after q - 1. The index gives a whole time away first, so that q - 1 has
 // parts to be taken from; then each whole time among the parts goes back to the index.
 fn place(start: Start, factor: u64, ahead: u64) -> Point
-    requires { ⌜ Near factor start × (0 < factor) × (factor ≤ 1048576) × (ahead ≤ 3) ⌝ }
+    requires { ⌜ Ready factor start × (ahead ≤ 3) ⌝ }
     ensures { λ r. ⌜ r ≡ pointOf factor (qOf factor start +ℤ (pos ahead -ℤ pos 1)) ⌝ }
 {
     let mut index = start.index - 1;
@@ -76,7 +79,7 @@ fn place(start: Start, factor: u64, ahead: u64) -> Point
 
 // floor(t) and the product, both from the one split of t.
 fn inner_of(t: f64, factor: u64) -> Inner
-    requires { ⌜ (small t ≡ true) × (factor ≤ 1048576) ⌝ }
+    requires { ⌜ inRange 1 t factor ≡ true ⌝ }
     ensures { λ r. ⌜ r ≡ innerOf t factor ⌝ }
 {
     let s = whole::split(t);
@@ -87,8 +90,8 @@ fn inner_of(t: f64, factor: u64) -> Inner
 
 // Where q lies, for two, three and four points.
 fn start_floor(t: f64, factor: u64) -> Start
-    requires { ⌜ (small t ≡ true) × (factor ≤ 1048576) ⌝ }
-    ensures { λ r. ⌜ (r ≡ startOf floorOf t factor) × Near factor r ⌝ }
+    requires { ⌜ inRange 1 t factor ≡ true ⌝ }
+    ensures { λ r. ⌜ (r ≡ startOf floorOf t factor) × Ready factor r ⌝ }
 {
     let i = inner_of(t, factor);
     let parts = std::num::truncating_f64_to_u64(whole::floor(i.product));
@@ -98,8 +101,8 @@ fn start_floor(t: f64, factor: u64) -> Start
 
 // The same for one point: the nearest part, a half away from zero.
 fn start_round(t: f64, factor: u64) -> Start
-    requires { ⌜ (small t ≡ true) × (factor ≤ 1048576) ⌝ }
-    ensures { λ r. ⌜ (r ≡ startOf roundOf t factor) × Near factor r ⌝ }
+    requires { ⌜ inRange 1 t factor ≡ true ⌝ }
+    ensures { λ r. ⌜ (r ≡ startOf roundOf t factor) × Ready factor r ⌝ }
 {
     let i = inner_of(t, factor);
     let parts = std::num::truncating_f64_to_u64(whole::round(i.product));
@@ -133,7 +136,7 @@ pub fn get_nearest_times_2(t: f64, factor: u64) -> Times2
 pub fn get_nearest_times_3(t: f64, factor: u64) -> Times3
     ensures { λ r. ⌜ saidTimes3 r ≡ nearest3 t factor ⌝ }
 {
-    if !in_range(t, factor, 3) {
+    if !in_range(t, factor, LEAST) {
         return Times3::Refused(Refusal::Argument);
     }
     let s = start_floor(t, factor);
@@ -144,7 +147,7 @@ pub fn get_nearest_times_3(t: f64, factor: u64) -> Times3
 pub fn get_nearest_times_4(t: f64, factor: u64) -> Times4
     ensures { λ r. ⌜ saidTimes4 r ≡ nearest4 t factor ⌝ }
 {
-    if !in_range(t, factor, 3) {
+    if !in_range(t, factor, LEAST) {
         return Times4::Refused(Refusal::Argument);
     }
     let s = start_floor(t, factor);

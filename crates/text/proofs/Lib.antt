@@ -3,3 +3,4 @@ pub mod Patterns
 pub mod Glyphs
 pub mod Runs
 pub mod Held
+pub mod Signs

@@ -1,32 +1,24 @@
+-- `asynchro::apply_chunk` meets its contract: a rung of the ladder for each refusal, then the end of every call. Assumes nothing.
 use borrow.Author.Tests.{not-true, not-false}
-use Rattle.error.proofs.Ladder.{pass, stop, failed, passed}
 use borrow.Author.Needs.{needs}
+use Rattle.error.proofs.Ladder.{pass, stop, failed, passed}
 use Rattle.asynchro.proofs.apply_chunk.Statement.{statement}
 use Rattle.asynchro.proofs.apply_chunk.Tie as tie
-use Rattle.asynchro.proofs.apply_chunk.Reads as reads
-use Rattle.asynchro.proofs.apply_chunk.Lts as lts
-use Rattle.asynchro.proofs.record.is_state.Reads as is-state-reads
-use Rattle.asynchro.proofs.record.update_lengths.Reads as update-lengths-reads
 
--- src/lib.rt:180:9
 is-state-requires : tie.Need-is-state-requires
 is-state-requires c κs = search needs
 
--- src/lib.rt:181:9
 returns : tie.Need-returns
 returns c = stop _ _ _ _ (failed (c .before .is-state .ensures) (c .if1 .taken))
 
--- src/lib.rt:184:9
 returns-2 : tie.Need-returns-2
 returns-2 c =
     pass _ _ _ _ _ (passed (c .before .before .before .is-state .ensures) (c .before .before .if1 .left)) (
     stop _ _ _ _ (not-true _ (c .if2 .taken)))
 
--- src/lib.rt:188:5
 update-lengths-requires : tie.Need-update-lengths-requires
 update-lengths-requires c κs = search needs
 
--- src/lib.rt:177:1
 returns-3 : tie.Need-returns-3
 returns-3 c =
     pass _ _ _ _ _ (passed (c .before .before .before .before .is-state .ensures) (c .before .before .before .if1 .left)) (

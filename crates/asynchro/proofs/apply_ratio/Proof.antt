@@ -1,48 +1,37 @@
-use Rattle.asynchro.specs.Calls.{withRatio}
-use Rattle.asynchro.specs.Record.{updateLengths}
+-- `asynchro::apply_ratio` meets its contract: a rung of the ladder for each refusal, then the end of every call. Assumes nothing.
 use mathlib.Core.Path.{sym, ap, _∙_}
 use mathlib.Core.Logic.{⊎-elim}
 use borrow.Author.Tests.{not-true, not-false}
-use Rattle.error.proofs.Ladder.{pass, stop, failed, passed}
 use borrow.Author.Needs.{needs}
+use Rattle.error.proofs.Ladder.{pass, stop, failed, passed}
+use Rattle.asynchro.specs.Calls.{withRatio}
+use Rattle.asynchro.specs.Record.{updateLengths}
 use Rattle.asynchro.proofs.apply_ratio.Statement.{statement}
 use Rattle.asynchro.proofs.apply_ratio.Tie as tie
-use Rattle.asynchro.proofs.apply_ratio.Reads as reads
-use Rattle.asynchro.proofs.apply_ratio.Lts as lts
-use Rattle.asynchro.proofs.record.is_ratio.Reads as is-ratio-reads
-use Rattle.asynchro.proofs.record.is_state.Reads as is-state-reads
-use Rattle.asynchro.proofs.record.update_lengths.Reads as update-lengths-reads
 
--- src/lib.rt:143:9
 is-state-requires : tie.Need-is-state-requires
 is-state-requires c κs = search needs
 
--- src/lib.rt:144:9
 returns : tie.Need-returns
 returns c = stop _ _ _ _ (failed (c .before .is-state .ensures) (c .if1 .taken))
 
--- src/lib.rt:147:9
 returns-2 : tie.Need-returns-2
 returns-2 c =
     pass _ _ _ _ _ (passed (c .before .before .is-state .ensures) (c .before .if1 .left)) (
     stop _ _ _ _ (not-true _ (c .if2 .taken)))
 
--- src/lib.rt:149:9
 is-ratio-requires : tie.Need-is-ratio-requires
 is-ratio-requires c κs = search needs
 
--- src/lib.rt:150:9
 returns-3 : tie.Need-returns-3
 returns-3 c =
     pass _ _ _ _ _ (passed (c .before .before .before .before .is-state .ensures) (c .before .before .before .if1 .left)) (
     pass _ _ _ _ _ (not-false _ (c .before .before .if2 .left)) (
     stop _ _ _ _ (failed (c .before .is-ratio .ensures) (c .if3 .taken))))
 
--- src/lib.rt:157:5
 update-lengths-requires : tie.Need-update-lengths-requires
 update-lengths-requires c κs = search needs
 
--- src/lib.rt:140:1
 returns-4 : tie.Need-returns-4
 returns-4 c =
     let t = c .before .before in

@@ -1,21 +1,16 @@
+-- `asynchro::asked_count` meets its contract. Assumes nothing.
 use mathlib.Core.Path.{refl, sym, _∙_}
-use Rattle.error.proofs.Ladder.{pass, stop}
 use borrow.Author.Needs.{needs}
+use Rattle.error.proofs.Ladder.{pass, stop}
 use Rattle.asynchro.proofs.asked_count.Statement.{statement}
 use Rattle.asynchro.proofs.asked_count.Tie as tie
-use Rattle.asynchro.proofs.asked_count.Reads as reads
-use Rattle.asynchro.proofs.asked_count.Lts as lts
-use Rattle.asynchro.proofs.record.is_state.Reads as is-state-reads
 
--- src/lib.rt:201:8
 is-state-requires : tie.Need-is-state-requires
 is-state-requires c κs = search needs
 
--- src/lib.rt:198:1
 returns : tie.Need-returns
 returns c = pass _ _ _ _ _ (sym (c .before .is-state .ensures) ∙ c .if1 .taken) refl
 
--- src/lib.rt:198:1
 returns-2 : tie.Need-returns-2
 returns-2 c = stop _ _ _ _ (sym (c .before .is-state .ensures) ∙ c .if1 .left)
 

@@ -1,37 +1,28 @@
-use Rattle.asynchro.specs.Calls.{filled, firstLengths}
-use Rattle.asynchro.specs.Record.{saidMade}
-use Rattle.error.proofs.Ladder.{pass, stop, failed, passed}
+-- `asynchro::first_lengths` meets its contract: refusal 6, then the fill. Assumes nothing.
 use mathlib.Core.Path.{sym, ap, _∙_}
 use borrow.Author.Needs.{needs}
+use Rattle.error.proofs.Ladder.{pass, stop, failed, passed}
+use Rattle.asynchro.specs.Calls.{filled, firstLengths}
+use Rattle.asynchro.specs.Record.{saidMade}
 use Rattle.asynchro.proofs.first_lengths.Statement.{statement}
 use Rattle.asynchro.proofs.first_lengths.Tie as tie
-use Rattle.asynchro.proofs.first_lengths.Reads as reads
-use Rattle.asynchro.proofs.first_lengths.Lts as lts
-use Rattle.asynchro.proofs.record.maxima_hold.Reads as maxima-hold-reads
-use Rattle.asynchro.proofs.record.update_lengths.Reads as update-lengths-reads
 
--- src/lib.rt:91:9
 maxima-hold-requires : tie.Need-maxima-hold-requires
 maxima-hold-requires c κs = search needs
 
--- src/lib.rt:92:9
 returns : tie.Need-returns
 unfolding firstLengths
 returns c = stop _ _ _ _ (failed (c .before .maxima-hold .ensures) (c .if1 .taken))
 
--- src/lib.rt:94:11
 update-lengths-requires : tie.Need-update-lengths-requires
 update-lengths-requires c κs = search needs
 
--- src/lib.rt:95:21
 enum-known-t : tie.Need-enum-known-t
 enum-known-t c = search needs
 
--- src/lib.rt:100:23
 enum-known-e : tie.Need-enum-known-e
 enum-known-e c = search needs
 
--- src/lib.rt:88:1
 returns-2 : tie.Need-returns-2
 unfolding firstLengths
 returns-2 c =
@@ -39,7 +30,6 @@ returns-2 c =
     pass _ _ _ _ _ (passed (u .before .before .maxima-hold .ensures) (u .before .if1 .left)) (
     ap filled (sym (ap saidMade (c .before .t .given .1)) ∙ u .update-lengths .ensures))
 
--- src/lib.rt:88:1
 returns-3 : tie.Need-returns-3
 unfolding firstLengths
 returns-3 c =

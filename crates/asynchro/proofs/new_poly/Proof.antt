@@ -1,33 +1,22 @@
-use Rattle.asynchro.specs.Calls.{construct, firstLengths}
+-- `asynchro::new_poly` meets its contract: a rung of the ladder for each refusal, then the record. Assumes nothing.
 use mathlib.Core.Path.{ap, _∙_}
 use borrow.Author.Tests.{lt-leb, le-leb}
-use Rattle.error.proofs.Ladder.{pass, stop, failed, passed}
 use borrow.Author.Needs.{needs}
+use Rattle.error.proofs.Ladder.{pass, stop, failed, passed}
+use Rattle.asynchro.specs.Calls.{construct, firstLengths}
 use Rattle.asynchro.proofs.new_poly.Statement.{statement}
 use Rattle.asynchro.proofs.new_poly.Tie as tie
-use Rattle.asynchro.proofs.new_poly.Reads as reads
-use Rattle.asynchro.proofs.new_poly.Lts as lts
-use Rattle.asynchro.proofs.above_zero.Reads as above-zero-reads
-use Rattle.asynchro.proofs.first_lengths.Reads as first-lengths-reads
-use Rattle.asynchro.proofs.fresh_state.Reads as fresh-state-reads
-use Rattle.asynchro.proofs.record.at_least_one.Reads as at-least-one-reads
-use Rattle.asynchro.proofs.record.is_channels.Reads as is-channels-reads
-use Rattle.asynchro.proofs.record.is_ratio.Reads as is-ratio-reads
 
--- src/lib.rt:115:9
 above-zero-requires : tie.Need-above-zero-requires
 above-zero-requires c κs = search needs
 
--- src/lib.rt:116:9
 returns : tie.Need-returns
 unfolding construct
 returns c = stop _ _ _ _ (failed (c .before .above-zero .ensures) (c .if1 .taken))
 
--- src/lib.rt:118:9
 at-least-one-requires : tie.Need-at-least-one-requires
 at-least-one-requires c κs = search needs
 
--- src/lib.rt:119:9
 returns-2 : tie.Need-returns-2
 unfolding construct
 returns-2 c =
@@ -35,7 +24,6 @@ returns-2 c =
     pass _ _ _ _ _ (passed (z .before .above-zero .ensures) (z .if1 .left)) (
     stop _ _ _ _ (failed (c .before .at-least-one .ensures) (c .if2 .taken)))
 
--- src/lib.rt:122:9
 returns-3 : tie.Need-returns-3
 unfolding construct
 returns-3 c =
@@ -45,11 +33,9 @@ returns-3 c =
     pass _ _ _ _ _ (passed (o .before .at-least-one .ensures) (o .if2 .left)) (
     stop _ _ _ _ (lt-leb _ _ (c .if3 .taken))))
 
--- src/lib.rt:124:9
 is-ratio-requires : tie.Need-is-ratio-requires
 is-ratio-requires c κs = search needs
 
--- src/lib.rt:125:9
 returns-4 : tie.Need-returns-4
 unfolding construct
 returns-4 c =
@@ -61,11 +47,9 @@ returns-4 c =
     pass _ _ _ _ _ (le-leb _ _ (k .if3 .left)) (
     stop _ _ _ _ (failed (c .before .is-ratio .ensures) (c .if4 .taken)))))
 
--- src/lib.rt:127:9
 is-channels-requires : tie.Need-is-channels-requires
 is-channels-requires c κs = search needs
 
--- src/lib.rt:128:9
 returns-5 : tie.Need-returns-5
 unfolding construct
 returns-5 c =
@@ -79,15 +63,12 @@ returns-5 c =
     pass _ _ _ _ _ (passed (t .before .is-ratio .ensures) (t .if4 .left)) (
     stop _ _ _ _ (failed (c .before .is-channels .ensures) (c .if5 .taken))))))
 
--- src/lib.rt:130:19
 fresh-state-requires : tie.Need-fresh-state-requires
 fresh-state-requires c κs = search needs
 
--- src/lib.rt:130:5
 first-lengths-requires : tie.Need-first-lengths-requires
 first-lengths-requires c κs = search needs
 
--- src/lib.rt:105:1
 returns-6 : tie.Need-returns-6
 unfolding construct
 returns-6 c =

@@ -1,5 +1,4 @@
 -- `frames::look` meets its contract. The invariant: the moment and the answer are those of the frames so far. Assumes nothing.
-use mathlib.Core.Path.{_∙_}
 use Prim.Native.Nat.{_≤_, _-_}
 use native.Mathlib.Omega.{arith}
 use borrow.Author.Needs.{needs}

@@ -1,6 +1,5 @@
 -- `frames::place_from` meets its contract. Assumes nothing.
 use borrow.Author.Needs.{needs}
-use borrow.Author.Tests.{le-leb, lt-leb}
 use mathlib.Core.Path.{_∙_}
 use native.Mathlib.Omega.{arith}
 use Rattle.frames.proofs.Floors.{above, below, place-above, place-high, place-near, place-far, place-low, place-none}

@@ -40,7 +40,7 @@ module _ (start : Start) (factor ahead : ℕ) (h : natAbs (start .index) ≤ 450
 add-index : tie.Need-add-index Inv-loop μ-loop
 add-index c =
     let a = c .before .before .before .before .before in
-    carried-fits (begun (a .args .start) (a .args .factor) (a .args .ahead) (a .pre .0 .0) (a .pre .1)) (c .before .loop .inv) (a .pre .1) (c .loop-test .taken) (a .pre .0 .0) (omega arith)
+    carried-fits (begun (a .args .start) (a .args .factor) (a .args .ahead) (a .pre .0 .0) (a .pre .0 .2)) (c .before .loop .inv) (a .pre .0 .2) (c .loop-test .taken) (a .pre .0 .0) (omega arith)
 
 loop-less : tie.Need-loop-less Inv-loop μ-loop
 loop-less c = omega arith
@@ -51,7 +51,7 @@ loop-again c = carried-next _ (c .before .loop .inv) (c .loop-test .taken) (toZ-
 returns : tie.Need-returns Inv-loop μ-loop
 returns c =
     let a = c .before .before .before .before .before in
-    carried-done (begun (a .args .start) (a .args .factor) (a .args .ahead) (a .pre .0 .0) (a .pre .1)) (c .before .loop .inv) (c .loop-test .left)
+    carried-done (begun (a .args .start) (a .args .factor) (a .args .ahead) (a .pre .0 .0) (a .pre .0 .2)) (c .before .loop .inv) (c .loop-test .left)
 
 pub place-spec : {M : Type 1} → statement M
 place-spec =

@@ -17,14 +17,14 @@ truncating-f64-to-u64-requires : tie.Need-truncating-f64-to-u64-requires
 truncating-f64-to-u64-requires c κs =
     let a = c .before .before in
     let f = subst T (sym (a .good .0 .1)) tt in
-    start-cast (a .args .t) (a .args .factor) f (a .pre .0) (a .pre .1) floorOf (floor-start (a .args .t) (a .args .factor) f (a .pre .0) (a .pre .1))
+    start-cast (a .args .t) (a .args .factor) f (a .pre) floorOf (floor-start (a .args .t) (a .args .factor) f (a .pre))
     _ _ (c .before .inner-of .ensures) (c .floor .ensures)
 
 returns : tie.Need-returns
 returns c =
     let a = c .before .before .before .before in
     let f = subst T (sym (a .good .0 .1)) tt in
-    start-is (a .args .t) (a .args .factor) f (a .pre .0) (a .pre .1) floorOf (floor-start (a .args .t) (a .args .factor) f (a .pre .0) (a .pre .1))
+    start-is (a .args .t) (a .args .factor) f (a .pre) floorOf (floor-start (a .args .t) (a .args .factor) f (a .pre))
     _ _ (c .before .before .before .inner-of .ensures) (c .before .before .floor .ensures) _ (c .before .truncating-f64-to-u64 .ensures)
 
 pub start-floor-spec : {M : Type 1} → statement M

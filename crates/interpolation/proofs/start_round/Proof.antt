@@ -17,14 +17,14 @@ truncating-f64-to-u64-requires : tie.Need-truncating-f64-to-u64-requires
 truncating-f64-to-u64-requires c κs =
     let a = c .before .before in
     let f = subst T (sym (a .good .0 .1)) tt in
-    start-cast (a .args .t) (a .args .factor) f (a .pre .0) (a .pre .1) roundOf (round-start (a .args .t) (a .args .factor) f (a .pre .0) (a .pre .1))
+    start-cast (a .args .t) (a .args .factor) f (a .pre) roundOf (round-start (a .args .t) (a .args .factor) f (a .pre))
     _ _ (c .before .inner-of .ensures) (c .round .ensures)
 
 returns : tie.Need-returns
 returns c =
     let a = c .before .before .before .before in
     let f = subst T (sym (a .good .0 .1)) tt in
-    start-is (a .args .t) (a .args .factor) f (a .pre .0) (a .pre .1) roundOf (round-start (a .args .t) (a .args .factor) f (a .pre .0) (a .pre .1))
+    start-is (a .args .t) (a .args .factor) f (a .pre) roundOf (round-start (a .args .t) (a .args .factor) f (a .pre))
     _ _ (c .before .before .before .inner-of .ensures) (c .before .before .round .ensures) _ (c .before .truncating-f64-to-u64 .ensures)
 
 pub start-round-spec : {M : Type 1} → statement M

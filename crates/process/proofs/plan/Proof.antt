@@ -1,49 +1,54 @@
+-- `process::plan` meets its contract: the refusals in their order, then the record. Assumes nothing.
+use mathlib.Core.Path.{ap, _∙_}
 use borrow.Author.Needs.{needs}
+use Rattle.error.proofs.Ladder.{pass, stop, failed, passed}
+use Rattle.asynchro.specs.Record.{updateLengths}
+use Rattle.process.specs.Block.{planned}
 use Rattle.process.proofs.plan.Statement.{statement}
 use Rattle.process.proofs.plan.Tie as tie
-use Rattle.process.proofs.plan.Reads as reads
-use Rattle.process.proofs.plan.Lts as lts
-use Rattle.asynchro.proofs.record.is_state.Reads as is-state-reads
-use Rattle.asynchro.proofs.record.update_lengths.Reads as update-lengths-reads
-use Rattle.process.proofs.after_block.Reads as after-block-reads
-use Rattle.process.proofs.look.Reads as look-reads
-use Rattle.process.proofs.validate_buffers.Reads as validate-buffers-reads
 
--- src/lib.rt:124:9
 is-state-requires : tie.Need-is-state-requires
 is-state-requires c κs = search needs
 
--- src/lib.rt:125:9
 returns : tie.Need-returns
-returns c = ?
+unfolding planned
+returns c = stop _ _ _ _ (failed (c .before .is-state .ensures) (c .if1 .taken))
 
--- src/lib.rt:127:9
 validate-buffers-requires : tie.Need-validate-buffers-requires
-validate-buffers-requires c κs = ?
+validate-buffers-requires c κs = passed (c .before .is-state .ensures) (c .if1 .left)
 
--- src/lib.rt:128:9
 returns-2 : tie.Need-returns-2
-returns-2 c = ?
+unfolding planned
+returns-2 c =
+    pass _ _ _ _ _ (passed (c .before .before .before .is-state .ensures) (c .before .before .if1 .left)) (
+    stop _ _ _ _ (failed (c .before .validate-buffers .ensures) (c .if2 .taken)))
 
--- src/lib.rt:130:9
 look-requires : tie.Need-look-requires
-look-requires c κs = ?
+look-requires c κs = passed (c .before .before .before .is-state .ensures) (c .before .before .if1 .left)
 
--- src/lib.rt:132:9
 returns-3 : tie.Need-returns-3
-returns-3 c = ?
+unfolding planned
+returns-3 c =
+    let t = c .before .before .before in
+    pass _ _ _ _ _ (passed (t .before .before .before .is-state .ensures) (t .before .before .if1 .left)) (
+    pass _ _ _ _ _ (passed (t .before .validate-buffers .ensures) (t .if2 .left)) (
+    stop _ _ _ _ (failed (c .before .before .look .ensures .0) (c .if3 .taken))))
 
--- src/lib.rt:134:38
 after-block-requires : tie.Need-after-block-requires
 after-block-requires c κs = search needs
 
--- src/lib.rt:134:5
 update-lengths-requires : tie.Need-update-lengths-requires
 update-lengths-requires c κs = search needs
 
--- src/lib.rt:121:1
 returns-4 : tie.Need-returns-4
-returns-4 c = ?
+unfolding planned
+returns-4 c =
+    let l = c .before .before in
+    let t = l .before .before .before in
+    pass _ _ _ _ _ (passed (t .before .before .before .is-state .ensures) (t .before .before .if1 .left)) (
+    pass _ _ _ _ _ (passed (t .before .validate-buffers .ensures) (t .if2 .left)) (
+    pass _ _ _ _ _ (passed (l .before .before .look .ensures .0) (l .if3 .left)) (
+    c .update-lengths .ensures ∙ ap updateLengths (c .before .after-block .ensures))))
 
 pub plan-spec : {M : Type 1} → statement M
 plan-spec =

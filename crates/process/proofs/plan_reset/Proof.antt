@@ -1,40 +1,41 @@
+-- `process::plan_reset` meets its contract: the refusals in their order, then the record. Assumes nothing.
+use mathlib.Core.Path.{ap, _∙_}
 use borrow.Author.Needs.{needs}
+use Rattle.error.proofs.Ladder.{pass, stop, failed, passed}
+use Rattle.asynchro.specs.Record.{updateLengths}
+use Rattle.process.specs.Block.{resetting}
 use Rattle.process.proofs.plan_reset.Statement.{statement}
 use Rattle.process.proofs.plan_reset.Tie as tie
-use Rattle.process.proofs.plan_reset.Reads as reads
-use Rattle.process.proofs.plan_reset.Lts as lts
-use Rattle.asynchro.proofs.record.is_state.Reads as is-state-reads
-use Rattle.asynchro.proofs.record.update_lengths.Reads as update-lengths-reads
-use Rattle.process.proofs.restored_state.Reads as restored-state-reads
-use Rattle.process.proofs.work_holds.Reads as work-holds-reads
 
--- src/lib.rt:218:9
 is-state-requires : tie.Need-is-state-requires
 is-state-requires c κs = search needs
 
--- src/lib.rt:219:9
 returns : tie.Need-returns
-returns c = ?
+unfolding resetting
+returns c = stop _ _ _ _ (failed (c .before .is-state .ensures) (c .if1 .taken))
 
--- src/lib.rt:221:9
 work-holds-requires : tie.Need-work-holds-requires
-work-holds-requires c κs = ?
+work-holds-requires c κs = passed (c .before .is-state .ensures) (c .if1 .left)
 
--- src/lib.rt:222:9
 returns-2 : tie.Need-returns-2
-returns-2 c = ?
+unfolding resetting
+returns-2 c =
+    pass _ _ _ _ _ (passed (c .before .before .before .is-state .ensures) (c .before .before .if1 .left)) (
+    stop _ _ _ _ (failed (c .before .work-holds .ensures) (c .if2 .taken)))
 
--- src/lib.rt:224:38
 restored-state-requires : tie.Need-restored-state-requires
 restored-state-requires c κs = search needs
 
--- src/lib.rt:224:5
 update-lengths-requires : tie.Need-update-lengths-requires
 update-lengths-requires c κs = search needs
 
--- src/lib.rt:215:1
 returns-3 : tie.Need-returns-3
-returns-3 c = ?
+unfolding resetting
+returns-3 c =
+    let t = c .before .before in
+    pass _ _ _ _ _ (passed (t .before .before .before .is-state .ensures) (t .before .before .if1 .left)) (
+    pass _ _ _ _ _ (passed (t .before .work-holds .ensures) (t .if2 .left)) (
+    c .update-lengths .ensures ∙ ap updateLengths (c .before .restored-state .ensures)))
 
 pub plan-reset-spec : {M : Type 1} → statement M
 plan-reset-spec =

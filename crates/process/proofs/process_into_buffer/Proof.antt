@@ -1,42 +1,44 @@
+-- `process::process_into_buffer` meets its contract. Assumes nothing.
+use mathlib.Core.Path.{refl}
 use borrow.Author.Needs.{needs}
+use denote.Ref.{now}
+use Rattle.process.proofs.Written.{block-refused, block-ran, block-tests}
 use Rattle.process.proofs.process_into_buffer.Statement.{statement}
 use Rattle.process.proofs.process_into_buffer.Tie as tie
-use Rattle.process.proofs.process_into_buffer.Reads as reads
-use Rattle.process.proofs.process_into_buffer.Lts as lts
-use Rattle.process.proofs.plan.Reads as plan-reads
-use Rattle.process.proofs.write.Reads as write-reads
 
--- src/lib.rt:185:11
 plan-requires : tie.Need-plan-requires
 plan-requires c κs = search needs
 
--- src/lib.rt:186:23
 enum-known-r : tie.Need-enum-known-r
 enum-known-r c = search needs
 
--- src/lib.rt:190:21
 enum-known-next : tie.Need-enum-known-next
 enum-known-next c = search needs
 
--- src/lib.rt:191:13
 write-requires : tie.Need-write-requires
-write-requires c κs = ?
+write-requires c κs =
+    let t = c .before .before .before in
+    let a = t .before .before .before .before .before .before .args in
+    let k = block-tests (a .s) _ _ (now (a .input)) (now (a .output)) (now (a .work)) _ (t .before .before .plan .ensures) _ (t .next .given .1) in
+    (k .0, (k .1, (refl, refl)))
 
--- src/lib.rt:175:1
 returns : tie.Need-returns
-returns c = ?
+returns c =
+    let a = c .before .before .before .before .before .before .before .args in
+    block-refused (a .s) _ _ (now (a .input)) (now (a .output)) (now (a .work)) _ (c .before .before .before .plan .ensures) _ (c .before .r .given .1)
 
--- src/lib.rt:175:1
 same-length : tie.Need-same-length
 same-length c = search needs
 
--- src/lib.rt:175:1
 same-length-2 : tie.Need-same-length-2
 same-length-2 c = search needs
 
--- src/lib.rt:175:1
 returns-2 : tie.Need-returns-2
-returns-2 c = ?
+returns-2 c =
+    let w = c .before .before .before .before .write in
+    let t = c .before .before .before .before .before .before .before .before in
+    let a = t .before .before .before .before .before .before .args in
+    block-ran (a .s) _ _ (now (a .input)) (now (a .output)) (now (a .work)) _ (t .before .before .plan .ensures) _ _ _ (t .next .given .1) (w .ensures .0) (w .ensures .1)
 
 pub process-into-buffer-spec : {M : Type 1} → statement M
 process-into-buffer-spec =

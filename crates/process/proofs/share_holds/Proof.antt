@@ -1,18 +1,15 @@
+-- `process::share_holds` meets its contract: there is a channel. Assumes nothing.
 use borrow.Author.Needs.{needs}
+use Rattle.asynchro.proofs.Valid.{valid}
 use Rattle.process.proofs.share_holds.Statement.{statement}
 use Rattle.process.proofs.share_holds.Tie as tie
-use Rattle.process.proofs.share_holds.Reads as reads
-use Rattle.process.proofs.share_holds.Lts as lts
 
--- src/lib.rt:64:6
 rem-result : tie.Need-rem-result
-rem-result c = ?
+rem-result c = valid _ (c .before .pre) .channels-some
 
--- src/lib.rt:64:43
 div-result : tie.Need-div-result
-div-result c = ?
+div-result c = valid _ (c .before .before .pre) .channels-some
 
--- src/lib.rt:60:1
 returns : tie.Need-returns
 returns c = search needs
 

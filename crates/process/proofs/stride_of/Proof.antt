@@ -1,35 +1,30 @@
+-- `process::stride_of` meets its contract: a maximum and the points are small. Assumes nothing.
+use native.Mathlib.Omega.{arith}
 use borrow.Author.Needs.{needs}
+use Rattle.asynchro.proofs.Points.{points-few}
+use Rattle.process.proofs.Shape.{stride-small, stride-is}
 use Rattle.process.proofs.stride_of.Statement.{statement}
 use Rattle.process.proofs.stride_of.Tie as tie
-use Rattle.process.proofs.stride_of.Reads as reads
-use Rattle.process.proofs.stride_of.Lts as lts
-use Rattle.asynchro.proofs.record.max_input_of.Reads as max-input-of-reads
-use Rattle.asynchro.proofs.record.points_in.Reads as points-in-reads
-use Rattle.asynchro.proofs.sizes.frames_of.Reads as frames-of-reads
 
--- src/lib.rt:47:32
 max-input-of-requires : tie.Need-max-input-of-requires
 max-input-of-requires c κs = search needs
 
--- src/lib.rt:47:5
 frames-of-requires : tie.Need-frames-of-requires
 frames-of-requires c κs = search needs
 
--- src/lib.rt:48:15
 points-in-requires : tie.Need-points-in-requires
 points-in-requires c κs = search needs
 
--- src/lib.rt:48:11
 mul-result : tie.Need-mul-result
-mul-result c = ?
+mul-result c = omega (arith, c .points-in .ensures, points-few (c .before .before .before .args .s .degree))
 
--- src/lib.rt:47:5
 add-result : tie.Need-add-result
-add-result c = ?
+add-result c =
+    let s = c .before .before .before .args .s in
+    omega (arith, stride-small s, stride-is s _ _ _ (c .before .before .max-input-of .ensures) (c .before .frames-of .ensures) (c .points-in .ensures))
 
--- src/lib.rt:44:1
 returns : tie.Need-returns
-returns c = ?
+returns c = stride-is (c .before .before .before .args .s) _ _ _ (c .before .before .max-input-of .ensures) (c .before .frames-of .ensures) (c .points-in .ensures)
 
 pub stride-of-spec : {M : Type 1} → statement M
 stride-of-spec =

@@ -1,72 +1,78 @@
+-- `process::write` meets its contract: refusal 8's test gives each step the room that it asks. Assumes nothing.
+use mathlib.Core.Path.{refl, _∙_}
 use borrow.Author.Needs.{needs}
+use denote.Ref.{now}
+use Rattle.asynchro.proofs.Valid.{valid}
+use Rattle.process.proofs.Shape.{shaped, move-asks, load-asks, run-asks}
+use Rattle.process.proofs.Written.{work-is, output-is}
 use Rattle.process.proofs.write.Statement.{statement}
 use Rattle.process.proofs.write.Tie as tie
-use Rattle.process.proofs.write.Reads as reads
-use Rattle.process.proofs.write.Lts as lts
-use Rattle.area.proofs.load_all.Reads as load-all-reads
-use Rattle.area.proofs.move_all.Reads as move-all-reads
-use Rattle.asynchro.proofs.record.points_in.Reads as points-in-reads
-use Rattle.asynchro.proofs.record.step_now.Reads as step-now-reads
-use Rattle.frames.proofs.run_all.Reads as run-all-reads
-use Rattle.process.proofs.frames_to_read.Reads as frames-to-read-reads
-use Rattle.process.proofs.stride_of.Reads as stride-of-reads
-use Rattle.process.proofs.t_ratio_increment.Reads as t-ratio-increment-reads
 
--- src/lib.rt:156:9
 stride-of-requires : tie.Need-stride-of-requires
 stride-of-requires c κs = search needs
 
--- src/lib.rt:157:18
 points-in-requires : tie.Need-points-in-requires
 points-in-requires c κs = search needs
 
--- src/lib.rt:157:14
 mul-l2 : tie.Need-mul-l2
 mul-l2 c = search needs
 
--- src/lib.rt:158:9
 frames-to-read-requires : tie.Need-frames-to-read-requires
 frames-to-read-requires c κs = search needs
 
--- src/lib.rt:159:20
 div-share-in : tie.Need-div-share-in
-div-share-in c = ?
+div-share-in c = valid _ (c .before .before .before .before .before .before .pre .0) .channels-some
 
--- src/lib.rt:160:21
 div-share-out : tie.Need-div-share-out
-div-share-out c = ?
+div-share-out c = valid _ (c .before .before .before .before .before .before .pre .0) .channels-some
 
--- src/lib.rt:161:5
 move-all-requires : tie.Need-move-all-requires
-move-all-requires c κs = ?
+move-all-requires c κs =
+    let p = c .before .before in
+    let t = p .before .before .before .before .before in
+    move-asks _ _ _ _ _ (shaped _ _ _ _ _ _ (t .pre .0) (t .pre .1 .0)) _ _ (p .before .stride-of .ensures) (p .points-in .ensures) _ refl
 
--- src/lib.rt:162:5
 load-all-requires : tie.Need-load-all-requires
-load-all-requires c κs = ?
+load-all-requires c κs =
+    let m = c .before .before .before in
+    let p = m .before .before .before in
+    let t = p .before .before .before .before .before in
+    load-asks _ _ _ _ _ (shaped _ _ _ _ _ _ (t .pre .0) (t .pre .1 .0)) _ _ (p .before .stride-of .ensures) (p .points-in .ensures) _ _ _
+    (m .move-all .kept .0) (t .pre .1 .1 .0) (m .before .before .frames-to-read .ensures)
 
--- src/lib.rt:165:9
 step-now-requires : tie.Need-step-now-requires
 step-now-requires c κs = search needs
 
--- src/lib.rt:166:9
 t-ratio-increment-requires : tie.Need-t-ratio-increment-requires
 t-ratio-increment-requires c κs = search needs
 
--- src/lib.rt:168:5
 run-all-requires : tie.Need-run-all-requires
-run-all-requires c κs = ?
+run-all-requires c κs =
+    let l = c .before .before .before .before .before .before in
+    let m = l .before .before .before .before in
+    let p = m .before .before .before in
+    let t = p .before .before .before .before .before in
+    run-asks _ _ _ _ _ (shaped _ _ _ _ _ _ (t .pre .0) (t .pre .1 .0)) _ _ (p .before .stride-of .ensures) (p .points-in .ensures) _ _
+    (l .load-all .kept .0 ∙ m .move-all .kept .0) (t .pre .1 .1 .1)
 
--- src/lib.rt:139:1
 same-length : tie.Need-same-length
 same-length c = search needs
 
--- src/lib.rt:139:1
 same-length-2 : tie.Need-same-length-2
 same-length-2 c = search needs
 
--- src/lib.rt:139:1
 returns : tie.Need-returns
-returns c = ?
+returns c =
+    let r = c .before .before in
+    let d = r .before .before .before in
+    let l = d .before .before .before .before in
+    let m = l .before .before .before .before in
+    let f = m .before .before in
+    let p = f .before in
+    let t = p .before .before .before .before .before in
+    let w = work-is (t .args .s) _ _ (now (t .args .input)) _ (now (t .args .work)) _ _ _ _ _ (p .before .stride-of .ensures) (p .points-in .ensures) (f .frames-to-read .ensures)
+    (m .move-all .ensures) (l .load-all .ensures) in
+    (w, output-is (t .args .s) _ _ _ _ (now (t .args .output)) _ _ _ _ (p .before .stride-of .ensures) (d .before .step-now .ensures) (d .t-ratio-increment .ensures) w (r .run-all .ensures))
 
 pub write-spec : {M : Type 1} → statement M
 write-spec =

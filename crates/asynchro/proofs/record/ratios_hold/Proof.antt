@@ -1,28 +1,20 @@
+-- `asynchro::record::ratios_hold` meets its contract. Assumes nothing.
 use borrow.Author.Needs.{needs}
 use Rattle.asynchro.proofs.record.ratios_hold.Statement.{statement}
 use Rattle.asynchro.proofs.record.ratios_hold.Tie as tie
-use Rattle.asynchro.proofs.record.ratios_hold.Reads as reads
-use Rattle.asynchro.proofs.record.ratios_hold.Lts as lts
-use Rattle.asynchro.proofs.record.at_least_one.Reads as at-least-one-reads
-use Rattle.asynchro.proofs.record.is_ratio.Reads as is-ratio-reads
 
--- src/record.rt:130:5
 is-ratio-requires : tie.Need-is-ratio-requires
 is-ratio-requires c κs = search needs
 
--- src/record.rt:130:28
 is-ratio-requires-2 : tie.Need-is-ratio-requires-2
 is-ratio-requires-2 c κs = search needs
 
--- src/record.rt:130:50
 is-ratio-requires-3 : tie.Need-is-ratio-requires-3
 is-ratio-requires-3 c κs = search needs
 
--- src/record.rt:130:71
 at-least-one-requires : tie.Need-at-least-one-requires
 at-least-one-requires c κs = search needs
 
--- src/record.rt:127:1
 returns : tie.Need-returns
 returns c = rw (c .before .before .before .is-ratio .ensures, c .before .before .is-ratio2 .ensures, c .before .is-ratio3 .ensures, c .at-least-one .ensures)
 

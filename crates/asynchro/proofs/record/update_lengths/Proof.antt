@@ -1,48 +1,35 @@
-use Rattle.asynchro.specs.Record.{maxInputOf, inputOf, updateLengths}
-use Rattle.asynchro.specs.Sizes.{isFrames, framesOf, sizeHolds}
+-- `asynchro::record::update_lengths` meets its contract: refusal 6 in its three places, then the record put together. Assumes nothing.
 use mathlib.Core.Path.{_≡_, sym, ap, _∙_}
 use mathlib.Core.Bool.{true, false}
-use Rattle.error.proofs.Ladder.{pass, stop, failed, passed}
 use borrow.Author.Needs.{needs}
+use Rattle.error.proofs.Ladder.{pass, stop, failed, passed}
+use Rattle.asynchro.specs.Record.{maxInputOf, inputOf, updateLengths}
+use Rattle.asynchro.specs.Sizes.{isFrames, framesOf, sizeHolds}
 use Rattle.asynchro.proofs.record.update_lengths.Statement.{statement}
 use Rattle.asynchro.proofs.record.update_lengths.Tie as tie
-use Rattle.asynchro.proofs.record.update_lengths.Reads as reads
-use Rattle.asynchro.proofs.record.update_lengths.Lts as lts
-use Rattle.asynchro.proofs.record.input_of.Reads as input-of-reads
-use Rattle.asynchro.proofs.record.max_input_of.Reads as max-input-of-reads
-use Rattle.asynchro.proofs.record.output_of.Reads as output-of-reads
-use Rattle.asynchro.proofs.sizes.size_holds.Reads as size-holds-reads
 
--- src/record.rt:160:31
 input-of-requires : tie.Need-input-of-requires
 input-of-requires c κs = search needs
 
--- src/record.rt:160:22
 enum-known-input : tie.Need-enum-known-input
 enum-known-input c = search needs
 
--- src/record.rt:161:30
 enum-told : tie.Need-enum-told
 enum-told c = search needs
 
--- src/record.rt:161:9
 returns : tie.Need-returns
 unfolding updateLengths
 returns c = stop _ _ _ _ (ap isFrames (sym (c .before .before .input-of .ensures) ∙ c .enum-told .given .1))
 
--- src/record.rt:163:32
 output-of-requires : tie.Need-output-of-requires
 output-of-requires c κs = search needs
 
--- src/record.rt:163:22
 enum-known-output : tie.Need-enum-known-output
 enum-known-output c = search needs
 
--- src/record.rt:164:30
 enum-told-2 : tie.Need-enum-told-2
 enum-told-2 c = search needs
 
--- src/record.rt:164:9
 returns-2 : tie.Need-returns-2
 unfolding updateLengths
 returns-2 c =
@@ -50,15 +37,12 @@ returns-2 c =
     pass _ _ _ _ _ (ap isFrames (sym (i .before .before .input-of .ensures) ∙ i .input .given .1)) (
     stop _ _ _ _ (ap isFrames (sym (c .before .before .output-of .ensures) ∙ c .enum-told2 .given .1)))
 
--- src/record.rt:166:34
 max-input-of-requires : tie.Need-max-input-of-requires
 max-input-of-requires c κs = search needs
 
--- src/record.rt:166:9
 size-holds-requires : tie.Need-size-holds-requires
 size-holds-requires c κs = search needs
 
--- src/record.rt:167:9
 returns-3 : tie.Need-returns-3
 unfolding updateLengths
 returns-3 c =
@@ -70,7 +54,6 @@ returns-3 c =
     let h : sizeHolds (maxInputOf s) (framesOf (inputOf s)) ≡ false = rw (ie, ← c .before .before .max-input-of .ensures) (failed (c .before .size-holds .ensures) (c .if1 .taken)) in
     pass _ _ _ _ _ (ap isFrames ie) (pass _ _ _ _ _ (ap isFrames oe) (stop _ _ _ _ h))
 
--- src/record.rt:157:1
 returns-4 : tie.Need-returns-4
 unfolding updateLengths
 returns-4 c =

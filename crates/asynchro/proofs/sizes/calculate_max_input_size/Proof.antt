@@ -1,48 +1,34 @@
-use Rattle.asynchro.specs.Sizes.{maxInput}
+-- `asynchro::sizes::calculate_max_input_size` meets its contract. Assumes nothing.
 use borrow.Author.Needs.{needs}
+use Rattle.asynchro.specs.Sizes.{maxInput}
 use Rattle.asynchro.proofs.sizes.calculate_max_input_size.Statement.{statement}
 use Rattle.asynchro.proofs.sizes.calculate_max_input_size.Tie as tie
-use Rattle.asynchro.proofs.sizes.calculate_max_input_size.Reads as reads
-use Rattle.asynchro.proofs.sizes.calculate_max_input_size.Lts as lts
-use Rattle.asynchro.proofs.sizes.float_of.Reads as float-of-reads
-use Rattle.asynchro.proofs.sizes.size_of.Reads as size-of-reads
-use Rattle.asynchro.proofs.sizes.size_of_count.Reads as size-of-count-reads
-use Rattle.whole.proofs.ceil.Reads as ceil-reads
 
--- src/sizes.rt:111:30
 enum-told : tie.Need-enum-told
 enum-told c = search needs
 
--- src/sizes.rt:111:30
 size-of-count-requires : tie.Need-size-of-count-requires
 size-of-count-requires c κs = search needs
 
--- src/sizes.rt:113:17
 enum-told-2 : tie.Need-enum-told-2
 enum-told-2 c = search needs
 
--- src/sizes.rt:113:17
 float-of-requires : tie.Need-float-of-requires
 float-of-requires c κs = search needs
 
--- src/sizes.rt:114:17
 float-of-requires-2 : tie.Need-float-of-requires-2
 float-of-requires-2 c κs = search needs
 
--- src/sizes.rt:115:21
 ceil-requires : tie.Need-ceil-requires
 ceil-requires c κs = search needs
 
--- src/sizes.rt:115:13
 size-of-requires : tie.Need-size-of-requires
 size-of-requires c κs = search needs
 
--- src/sizes.rt:107:1
 returns : tie.Need-returns
 unfolding maxInput
 returns c = rw (c .before .enum-told .given .1) (c .size-of-count .ensures)
 
--- src/sizes.rt:107:1
 returns-2 : tie.Need-returns-2
 unfolding maxInput
 returns-2 c = rw (c .before .before .before .before .enum-told2 .given .1, ← c .before .before .before .float-of .ensures, ← c .before .before .float-of2 .ensures, ← c .before .ceil .ensures) (c .size-of .ensures)

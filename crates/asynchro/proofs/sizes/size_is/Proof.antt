@@ -1,22 +1,17 @@
+-- `asynchro::sizes::size_is` meets its contract. Assumes nothing.
 use borrow.Author.Needs.{needs}
 use Rattle.asynchro.proofs.sizes.size_is.Statement.{statement}
 use Rattle.asynchro.proofs.sizes.size_is.Tie as tie
-use Rattle.asynchro.proofs.sizes.size_is.Reads as reads
-use Rattle.asynchro.proofs.sizes.size_is.Lts as lts
 
--- src/sizes.rt:162:22
 enum-known-s : tie.Need-enum-known-s
 enum-known-s c = search needs
 
--- src/sizes.rt:163:27
 enum-told : tie.Need-enum-told
 enum-told c = search needs
 
--- src/sizes.rt:158:1
 returns : tie.Need-returns
 returns c = rw (c .before .s .given .1)
 
--- src/sizes.rt:158:1
 returns-2 : tie.Need-returns-2
 returns-2 c = search needs
 

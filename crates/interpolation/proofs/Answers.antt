@@ -1,0 +1,25 @@
+-- What the four public functions share: the refusal, and the points as the definition lists them. Assumes nothing.
+use mathlib.Core.Bool.{true, false}
+use mathlib.Core.List.{List, [], map}
+use mathlib.Core.Path.{_≡_, ap, _∙_}
+use Prim.Native.Nat.{ℕ}
+use lib.IntN.{ℤ, _+ℤ_}
+use lib.Ieee.{Float}
+use Rattle.error.specs.Refusals.{Said, given, refused}
+use Rattle.error.proofs.Ladder.{pass, stop}
+use Rattle.interpolation.specs.Grid.{inRange, pointOf, startOf, qOf, gridSaid}
+use Rattle.interpolation.specs.declared.Point.{Point}
+use Rattle.interpolation.specs.declared.Start.{Start}
+
+-- the points from the start s
+abbrev pub pointsOf : ℕ → Start → List ℤ → List Point
+pointsOf factor s = map (λ o. pointOf factor (qOf factor s +ℤ o))
+
+module _ (least : ℕ) (how : Float → Float) (offsets : List ℤ) (t : Float) (factor : ℕ) where
+  pub grid-refused : inRange least t factor ≡ false → refused 11 [] ≡ gridSaid least how offsets t factor
+  unfolding gridSaid
+  grid-refused h = stop _ _ _ _ h
+
+  pub grid-given : (s : Start) (ps : List Point) → inRange least t factor ≡ true → s ≡ startOf how t factor → ps ≡ pointsOf factor s offsets → given ps ≡ gridSaid least how offsets t factor
+  unfolding gridSaid
+  grid-given s ps h p q = pass _ _ _ _ _ h (ap given (q ∙ ap (λ (s : Start). pointsOf factor s offsets) p))

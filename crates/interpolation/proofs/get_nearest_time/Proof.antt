@@ -1,0 +1,25 @@
+-- `interpolation::get_nearest_time` meets its contract. Assumes nothing.
+use borrow.Author.Needs.{needs}
+use Rattle.error.proofs.Ladder.{failed, passed}
+use Rattle.interpolation.proofs.Answers.{grid-refused, grid-given}
+use Rattle.interpolation.proofs.get_nearest_time.Statement.{statement}
+use Rattle.interpolation.proofs.get_nearest_time.Tie as tie
+
+in-range-requires : tie.Need-in-range-requires
+in-range-requires c κs = search needs
+
+returns : tie.Need-returns
+returns c = grid-refused _ _ _ _ _ (failed (c .before .in-range .ensures) (c .if1 .taken))
+
+start-round-requires : tie.Need-start-round-requires
+start-round-requires c κs = passed (c .before .in-range .ensures) (c .if1 .left)
+
+place-requires : tie.Need-place-requires
+place-requires c κs = search needs
+
+returns-2 : tie.Need-returns-2
+returns-2 c =
+    grid-given _ _ _ _ _ _ _ (passed (c .before .before .before .in-range .ensures) (c .before .before .if1 .left)) (c .before .start-round .ensures .0) (cc)
+
+pub get-nearest-time-spec : {M : Type 1} → statement M
+get-nearest-time-spec = tie.close (tie.spec in-range-requires returns start-round-requires place-requires returns-2)

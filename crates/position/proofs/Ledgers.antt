@@ -1,0 +1,68 @@
+-- One call keeps the bound, and so do any calls. In units of 2 ^ -1074. Assumes nothing.
+use mathlib.Core.List.{List, [], _∷_}
+use mathlib.Core.Path.{_≡_, refl, sym, ap, subst}
+use Prim.Native.Nat.{ℕ, _+_, _*_, _^_}
+use native.Mathlib.Omega.{arith}
+use lib.Ieee.{Float, binary64}
+use lib.ListN.{length}
+use Rattle.exact.specs.Whole.{Whole, _⊕_, Within}
+use Rattle.exact.specs.Exact.{exact}
+use Rattle.error.specs.Refusals.{Said, given, refused}
+use Rattle.asynchro.specs.declared.record.State.{State}
+use Rattle.process.specs.Block.{afterBlock, planned, sizesOf, blockEnd}
+use Rattle.position.specs.History.{Doubles, Call, ratio, relative, chunk, block, after}
+use Rattle.position.specs.Position.{Account, opened, exactMove, rampOf, added, accounted, ledger, stored, bound}
+use Rattle.position.proofs.Accepted.{Passed, passed, moved}
+use Rattle.position.proofs.Keeps.{Set, ratio-set, relative-set, chunk-set, block-doubles}
+
+-- a record and an account that keep the bound, the record's floats being doubles
+pub record Near (s : State) (a : Account) : Type 0 where
+  pub doubles : Doubles s
+  pub near : Within (bound (record { state = s; account = a })) (stored (record { state = s; account = a })) (a .exactly)
+
+-- the same with the index named
+abbrev Off : State → Account → Float → Type 0
+Off s a x = Within (bound (record { state = s; account = a })) ((a .inputs * 2 ^ 1074, 0) ⊕ exact binary64 x) (a .exactly)
+
+-- at the start nothing is added up
+pub opened-near : (s : State) → Doubles s → Near s (opened s)
+opened-near s d = record { doubles = d; near = none (2 ^ 1037) (2 ^ 1074) (exact binary64 (s .index)) }
+  where
+    none : (K U : ℕ) (i : Whole) → Within ((0 + 0) * K + 0) ((0 * U, 0) ⊕ i) i
+    none K U i = omega arith
+
+-- a setting leaves the index and the account
+set-near : (s t : State) (a : Account) → Near s a → Set s t → Near t a
+set-near s t a n w = record { doubles = w .doubles; near = subst (Off t a) (sym (w .index)) (n .near) }
+
+-- a block adds its frames, itself, its input size, its ramp and its exact move
+grown : (K U frames blocks ramps inputs n c w : ℕ) (e i y m : Whole) → Within ((frames + blocks) * K + ramps) ((inputs * U, 0) ⊕ i) e → Within ((n + 1) * K + w) ((c * U, 0) ⊕ y) (i ⊕ m)
+    → Within ((frames + n + (blocks + 1)) * K + (ramps + w)) (((inputs + c) * U, 0) ⊕ y) (e ⊕ m)
+grown K U frames blocks ramps inputs n c w e i y m h k = omega arith
+
+given-near : (s t : State) (a : Account) → Near s a → Passed s t → Near t (added s a (given (sizesOf s)))
+given-near s t a n p =
+    let m = moved s (n .doubles) (p .state) (p .reach) in
+    record {
+      doubles = block-doubles s t (n .doubles) p;
+      near = subst (Off t (added s a (given (sizesOf s)))) (sym (ap (λ (r : State). r .index) (p .left)))
+          (grown (2 ^ 1037) (2 ^ 1074) (a .frames) (a .blocks) (a .ramps) (a .inputs) (s .output) (s .input) (rampOf s (s .output))
+          (a .exactly) (exact binary64 (s .index)) (exact binary64 (afterBlock s .index)) (exactMove s (s .output)) (n .near) (m .near))
+    }
+
+block-near : (s : State) (a : Account) (frames mask : ℕ) (input output work : List Float) (r : Said State) → planned s frames mask (length input) (length output) (length work) ≡ r → Near s a
+    → Near (blockEnd s frames mask input output work r .state) (added s a (blockEnd s frames mask input output work r .said))
+block-near s a frames mask input output work (given t) e n = given-near s t a n (passed s t frames mask (length input) (length output) (length work) e)
+block-near s a frames mask input output work (refused k vs) e n = n
+
+-- ---- one call, and any calls
+pub call-near : (s : State) (a : Account) (c : Call) → Near s a → Near (after s c) (accounted s a c)
+call-near s a (ratio r d ramp) n = set-near s _ a n (ratio-set s r ramp (n .doubles) d)
+call-near s a (relative rel d ramp) n = set-near s _ a n (relative-set s rel ramp (n .doubles))
+call-near s a (chunk k) n = set-near s _ a n (chunk-set s k (n .doubles))
+call-near s a (block frames mask input output work) n = block-near s a frames mask input output work _ refl n
+
+pub calls-near : (s : State) (a : Account) (cs : List Call) → Near s a → Near (ledger s a cs .state) (ledger s a cs .account)
+unfolding ledger
+calls-near s a [] n = n
+calls-near s a (c ∷ cs) n = calls-near (after s c) (accounted s a c) cs (call-near s a c n)

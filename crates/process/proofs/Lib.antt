@@ -1,0 +1,5 @@
+-- Laws of the block run and of reset. Assumes nothing.
+pub mod Shape
+pub mod Written
+pub mod Keeps
+pub mod Settled

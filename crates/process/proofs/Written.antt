@@ -1,0 +1,85 @@
+-- The parts of a block joined: the increment, what the second pass leaves, and the outcome of each way out. Assumes nothing.
+use mathlib.Core.Bool.{Bool, true}
+use mathlib.Core.List.{List}
+use mathlib.Core.Path.{_≡_, sym, ap, _∙_}
+use Prim.Native.Nat.{ℕ, _*_, _/_}
+use borrow.Author.Tests.{eq-eqb, ne-eqb}
+use lib.Ieee.{Float}
+use lib.ListN.{length, replicate}
+use Rattle.exact.specs.Doubles.{_-f_, _/f_, count, zeroF}
+use Rattle.error.specs.declared.Refusal.{Refusal}
+use Rattle.asynchro.specs.declared.record.State.{State}
+use Rattle.asynchro.specs.declared.record.Made.{Made}
+use Rattle.asynchro.specs.declared.record.Made.the-variants as made
+use Rattle.asynchro.specs.declared.Done.the-variants as done
+use Rattle.asynchro.specs.Sizes.{startOf}
+use Rattle.asynchro.specs.Record.{pointsIn, stepNow, stepThen, isState, changed, saidMade}
+use Rattle.asynchro.proofs.Keeps.{accepted}
+use Rattle.area.specs.Moves.{movedAll, loadedAll}
+use Rattle.frames.specs.Path.{pathAt}
+use Rattle.frames.specs.Places.{shiftOf, lastOf, allReach}
+use Rattle.frames.specs.Run.{ranAll}
+use Rattle.process.specs.declared.Ran.the-variants as ran
+use Rattle.process.specs.Block.{readOf, strideOf, shapeHolds, incrementOf, reachHolds, indexAfter, afterBlock, planned, workAfter, outputAfter, sizesOf, blockEnd, blockOf, blockLeft, restored, resetting, resetEnd, resetOf, resetLeft}
+
+-- ---- the ramp's increment
+pub increment-none : (s : State) → s .output ≡ 0 → zeroF ≡ incrementOf s
+increment-none s h = rw (eq-eqb (s .output) 0 h)
+
+pub increment-some : (s : State) (t u n : Float) → (s .output ≡ 0 → ⊥) → t ≡ stepNow s → u ≡ stepThen s → n ≡ count (s .output) → (u -f t) /f n ≡ incrementOf s
+increment-some s t u n h a b e = rw (ne-eqb (s .output) 0 h, a, b, e)
+
+-- ---- the first pass
+pub look-is : (s : State) (t d i : Float) (b : Bool) → t ≡ stepNow s → d ≡ incrementOf s
+    → b ≡ allReach (shiftOf (s .degree)) (lastOf (s .degree) (s .input)) t d (s .index) (s .output) → i ≡ pathAt t d (s .index) (s .output) .index
+    → (b ≡ reachHolds s) × (i ≡ indexAfter s)
+look-is s t d i b e f g h = (rw (g, e, f), rw (h, e, f))
+
+pub after-is : (s : State) (i n : Float) → i ≡ indexAfter s → n ≡ count (s .input)
+    → changed s (s .chunk) (s .input) (s .output) (s .input) (i -f n) (s .target) (s .target) ≡ afterBlock s
+after-is s i n h e = rw (h, e)
+
+-- ---- the second pass
+module _ (s : State) (frames mask : ℕ) (input : List Float) (at : ℕ) (work : List Float) where
+  pub work-is : (stride l read : ℕ) (moved loaded : List Float) → stride ≡ strideOf s → l ≡ pointsIn s → read ≡ readOf s frames
+      → moved ≡ movedAll mask (s .fill) (2 * l) stride (s .channels) work
+      → loaded ≡ loadedAll mask (2 * l) input (length input / s .channels) at read (s .input) stride (s .channels) moved → loaded ≡ workAfter s frames mask input at work
+  unfolding workAfter
+  work-is stride l read moved loaded a b c d e = rw (e, d, c, b, a)
+
+pub output-is : (s : State) (mask : ℕ) (work after : List Float) (to : ℕ) (output out : List Float) (stride : ℕ) (t d : Float)
+    → stride ≡ strideOf s → t ≡ stepNow s → d ≡ incrementOf s → work ≡ after
+    → out ≡ ranAll (s .degree) (s .input) mask work stride t d (s .index) (s .output) to (length output / s .channels) (s .channels) output
+    → out ≡ outputAfter s mask after to output
+unfolding outputAfter
+output-is s mask work after to output out stride t d a b c w e = rw (e, a, b, c, w)
+
+-- ---- the block's two ways out
+module _ (s : State) (frames mask : ℕ) (input output work : List Float) (m : Made) (e : saidMade m ≡ planned s frames mask (length input) (length output) (length work)) where
+  pub block-refused : (r : Refusal) → m ≡ made.Refused r → blockLeft (record { state = s; answer = ran.Refused r }) output work ≡ blockOf s frames mask input output work
+  block-refused r h = ap (blockEnd s frames mask input output work) (ap saidMade (sym h) ∙ e)
+
+  pub block-ran : (t : State) (out left : List Float) → m ≡ made.Ready t → left ≡ workAfter s frames mask input 0 work → out ≡ outputAfter s mask (workAfter s frames mask input 0 work) 0 output
+      → blockLeft (record { state = t; answer = ran.Used (sizesOf s) }) out left ≡ blockOf s frames mask input output work
+  block-ran t out left h a b = rw (a, b) (ap (blockEnd s frames mask input output work) (ap saidMade (sym h) ∙ e))
+
+  -- a record to come: the tests of the first pass hold
+  pub block-tests : (t : State) → m ≡ made.Ready t → (isState s ≡ true) × (shapeHolds s frames mask (length input) (length output) (length work) ≡ true)
+  unfolding planned
+  block-tests t h =
+      let a = accepted (isState s) _ _ _ t (sym e ∙ ap saidMade h) in
+      let b = accepted (shapeHolds s frames mask (length input) (length output) (length work)) _ _ _ t (a .1) in
+      (a .0, b .0)
+
+-- ---- reset: the record to come, and its two ways out
+pub restored-is : (s : State) (l : ℕ) (i : Float) → l ≡ pointsIn s → i ≡ startOf l
+    → changed s (s .chunk0) (s .input) (s .output) (s .fill) i (s .original) (s .original) ≡ restored s
+restored-is s l i h e = rw (e, h)
+
+module _ (s : State) (work : List Float) (m : Made) (e : saidMade m ≡ resetting s (length work)) where
+  pub reset-refused : (r : Refusal) → m ≡ made.Refused r → resetLeft (record { state = s; answer = done.Refused r }) work ≡ resetOf s work
+  reset-refused r h = ap (resetEnd s work) (ap saidMade (sym h) ∙ e)
+
+  pub reset-done : (t : State) (left : List Float) → m ≡ made.Ready t → left ≡ replicate (length work) zeroF
+      → resetLeft (record { state = t; answer = done.Accepted }) left ≡ resetOf s work
+  reset-done t left h a = rw a (ap (resetEnd s work) (ap saidMade (sym h) ∙ e))

@@ -1,0 +1,2 @@
+-- The headline claims, a file each. Assumes nothing.
+pub mod Bench

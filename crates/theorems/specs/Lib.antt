@@ -1,0 +1,2 @@
+-- The table of bench cases. Definitions only.
+pub mod Bench
