@@ -1,5 +1,5 @@
 -- Document 01, "Grid points". Definitions only.
-use mathlib.Core.Bool.{Bool, _&&_}
+use mathlib.Core.Bool.{Bool, _&&_, cond}
 use mathlib.Core.List.{List, [], _∷_, map}
 use mathlib.Core.Path.{_≡_}
 use Prim.Native.Nat.{ℕ, _-_, _/_, _%_, _≤_, _<_}
@@ -47,7 +47,11 @@ pointOf factor (negsuc n) = record { index = negsuc (n / factor); subindex = fac
 abbrev pub innerOf : Float → ℕ → Inner
 innerOf t factor = record { index = toSigned 63 (splitOf t .floor); product = splitOf t .frac *f count factor }
 
--- `how` makes the product a whole number: its floor, and for one point round half away from zero
+-- the product made a whole number: its floor, or the nearest one, a half away from zero
+abbrev pub wholeBy : Bool → Float → Float
+wholeBy nearest = cond nearest roundOf floorOf
+
+-- floor(t), and the product made a whole number as `how` has it
 abbrev pub startOf : (Float → Float) → Float → ℕ → Start
 startOf how t factor = record { index = innerOf t factor .index; parts = toUnsigned 64 (how (innerOf t factor .product)) }
 

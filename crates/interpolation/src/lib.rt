@@ -6,8 +6,7 @@ ghost use mathlib.Core.Path.{_≡_};
 ghost use mathlib.Core.Bool.{true};
 ghost use Prim.Native.Nat.{_≤_};
 ghost use lib.IntN.{pos, _+ℤ_, _-ℤ_};
-ghost use Rattle.whole.specs.Rounded.{floorOf, roundOf};
-ghost use Rattle.interpolation.specs.Grid.{inRange, pointOf, innerOf, startOf, Ready, qOf, saidTimes1, saidTimes2, saidTimes3, saidTimes4, nearest1, nearest2, nearest3, nearest4};
+ghost use Rattle.interpolation.specs.Grid.{inRange, pointOf, innerOf, wholeBy, startOf, Ready, qOf, saidTimes1, saidTimes2, saidTimes3, saidTimes4, nearest1, nearest2, nearest3, nearest4};
 
 // A point of the grid.
 pub struct Point {
@@ -49,6 +48,10 @@ struct Inner {
     product: f64,
 }
 
+// One point takes the nearest part, the others the floor.
+const NEAREST: bool = true;
+const FLOOR: bool = false;
+
 // Three and four points take a factor of 3 at least.
 const LEAST: u64 = 3;
 
@@ -88,24 +91,23 @@ fn inner_of(t: f64, factor: u64) -> Inner
     Inner { index, product }
 }
 
-// Where q lies, for two, three and four points.
-fn start_floor(t: f64, factor: u64) -> Start
-    requires { ⌜ inRange 1 t factor ≡ true ⌝ }
-    ensures { λ r. ⌜ (r ≡ startOf floorOf t factor) × Ready factor r ⌝ }
+// The product as a whole number: the nearest, a half away from zero, or the floor.
+fn made_whole(product: f64, nearest: bool) -> f64
+    ensures { λ r. ⌜ r ≡ wholeBy nearest product ⌝ }
 {
-    let i = inner_of(t, factor);
-    let parts = std::num::truncating_f64_to_u64(whole::floor(i.product));
-    let index = i.index;
-    Start { index, parts }
+    if nearest {
+        return whole::round(product);
+    }
+    whole::floor(product)
 }
 
-// The same for one point: the nearest part, a half away from zero.
-fn start_round(t: f64, factor: u64) -> Start
+// Where q lies.
+fn start_of(t: f64, factor: u64, nearest: bool) -> Start
     requires { ⌜ inRange 1 t factor ≡ true ⌝ }
-    ensures { λ r. ⌜ (r ≡ startOf roundOf t factor) × Ready factor r ⌝ }
+    ensures { λ r. ⌜ (r ≡ startOf (wholeBy nearest) t factor) × Ready factor r ⌝ }
 {
     let i = inner_of(t, factor);
-    let parts = std::num::truncating_f64_to_u64(whole::round(i.product));
+    let parts = std::num::truncating_f64_to_u64(made_whole(i.product, nearest));
     let index = i.index;
     Start { index, parts }
 }
@@ -117,7 +119,7 @@ pub fn get_nearest_time(t: f64, factor: u64) -> Times1
     if !in_range(t, factor, 1) {
         return Times1::Refused(Refusal::Argument);
     }
-    let s = start_round(t, factor);
+    let s = start_of(t, factor, NEAREST);
     Times1::At(place(s, factor, 1))
 }
 
@@ -128,7 +130,7 @@ pub fn get_nearest_times_2(t: f64, factor: u64) -> Times2
     if !in_range(t, factor, 1) {
         return Times2::Refused(Refusal::Argument);
     }
-    let s = start_floor(t, factor);
+    let s = start_of(t, factor, FLOOR);
     Times2::At(place(s, factor, 1), place(s, factor, 2))
 }
 
@@ -139,7 +141,7 @@ pub fn get_nearest_times_3(t: f64, factor: u64) -> Times3
     if !in_range(t, factor, LEAST) {
         return Times3::Refused(Refusal::Argument);
     }
-    let s = start_floor(t, factor);
+    let s = start_of(t, factor, FLOOR);
     Times3::At(place(s, factor, 1), place(s, factor, 2), place(s, factor, 3))
 }
 
@@ -150,7 +152,7 @@ pub fn get_nearest_times_4(t: f64, factor: u64) -> Times4
     if !in_range(t, factor, LEAST) {
         return Times4::Refused(Refusal::Argument);
     }
-    let s = start_floor(t, factor);
+    let s = start_of(t, factor, FLOOR);
     Times4::At(
         place(s, factor, 0),
         place(s, factor, 1),

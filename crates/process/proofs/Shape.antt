@@ -11,7 +11,8 @@ use Rattle.asynchro.specs.declared.sizes.Size.{Size}
 use Rattle.asynchro.specs.Sizes.{framesOf}
 use Rattle.asynchro.specs.Record.{pointsIn, maxInputOf, isState}
 use Rattle.asynchro.proofs.Points.{points-few}
-use Rattle.asynchro.proofs.Valid.{both, max-small, valid}
+use Rattle.whole.proofs.Sizes.{both}
+use Rattle.asynchro.proofs.Valid.{max-small, valid}
 use Rattle.area.specs.Mask.{maskFits}
 use Rattle.process.specs.Block.{readOf, strideOf, workHolds, shareHolds, shapeHolds}
 

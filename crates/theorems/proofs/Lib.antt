@@ -1,2 +1,4 @@
 -- The headline claims, a file each. Assumes nothing.
 pub mod Bench
+pub mod Apart
+pub mod Blind
