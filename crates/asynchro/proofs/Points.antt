@@ -12,6 +12,5 @@ points-between Cubic = (lit≤ tt, lit≤ tt)
 points-between Quintic = (lit≤ tt, lit≤ tt)
 points-between Septic = (lit≤ tt, lit≤ tt)
 
-
 pub points-few : (d : PolynomialDegree) → pointsOf d ≤ 256
 points-few d = points-between d .1

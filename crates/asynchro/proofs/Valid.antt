@@ -88,8 +88,7 @@ tests s h =
     let all0 = both (countsHold s) (ratiosHold s) (all1 .0) in
     let z2 = both _ _ (all2 .1) in
     let z1 = both _ _ (z2 .0) in
-    let z0 = both (sizeIs (inputOf s) (s .input)) (sizeIs (outputOf s) (s .output)) (z1 .0) in
-    (
+    let z0 = both (sizeIs (inputOf s) (s .input)) (sizeIs (outputOf s) (s .output)) (z1 .0) in (
       record { counts = all0 .0; ratios = all0 .1; maxima = all1 .1; fill = z2 .1; index = all3 .1 },
       record { input = z0 .0; output = z0 .1; input-most = z1 .1 },
     )

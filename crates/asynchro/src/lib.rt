@@ -2,9 +2,12 @@
 // changes", "Refusal numbers".
 pub mod record;
 pub mod sizes;
+
 use asynchro_fast::PolynomialDegree;
-use error::{Answer, Refusal};
-use record::{Made, State};
+use error::Answer;
+use error::Refusal;
+use record::Made;
+use record::State;
 use sizes::FixedAsync;
 ghost use mathlib.Core.Path.{_≡_};
 ghost use Rattle.error.specs.Refusals.{saidAnswer};
@@ -12,8 +15,19 @@ ghost use Rattle.exact.specs.Doubles.{aboveZero};
 ghost use Rattle.asynchro.specs.Sizes.{framesOf, delayOf};
 ghost use Rattle.asynchro.specs.Record.{pointsIn, maxInputOf, maxOutputOf, saidMade};
 ghost use Rattle.asynchro.specs.Calls.{
-    saidCount, resultOf, endOf, freshState, firstLengths, construct, relativeHolds, applied,
-    setRatio, setRelative, chunked, setChunk, asked,
+  saidCount,
+  resultOf,
+  endOf,
+  freshState,
+  firstLengths,
+  construct,
+  relativeHolds,
+  applied,
+  setRatio,
+  setRelative,
+  chunked,
+  setChunk,
+  asked,
 };
 
 // What a setting answers.
@@ -248,7 +262,10 @@ pub fn nbr_channels(s: State) -> Count
 pub fn output_delay(s: State) -> Count
     ensures { λ r. ⌜ saidCount r ≡ asked s (framesOf (delayOf (pointsIn s) (s .current))) ⌝ }
 {
-    asked_count(s, sizes::frames_of(sizes::delay_of(record::points_in(s), s.current)))
+    asked_count(
+        s,
+        sizes::frames_of(sizes::delay_of(record::points_in(s), s.current)),
+    )
 }
 
 // The current ratio.

@@ -1,13 +1,26 @@
 // The state record: its sizes, the StateRecord test, and the one end of every call.
-use crate::sizes::{FixedAsync, Size};
+use crate::sizes::FixedAsync;
+use crate::sizes::Size;
 use asynchro_fast::PolynomialDegree;
 use error::Refusal;
 ghost use mathlib.Core.Path.{_≡_};
 ghost use Rattle.exact.specs.Doubles.{atLeastOne};
 ghost use Rattle.asynchro.specs.Bounds.{isRatio, isChannels, isChunk, isIndex};
 ghost use Rattle.asynchro.specs.Record.{
-    stepNow, stepThen, pointsIn, inputOf, outputOf, maxInputOf, maxOutputOf, countsHold, ratiosHold,
-    maximaHold, sizesHold, isState, saidMade, updateLengths,
+  stepNow,
+  stepThen,
+  pointsIn,
+  inputOf,
+  outputOf,
+  maxInputOf,
+  maxOutputOf,
+  countsHold,
+  ratiosHold,
+  maximaHold,
+  sizesHold,
+  isState,
+  saidMade,
+  updateLengths,
 };
 
 // Document 01, "The ratio state". `chunk0` is the construction chunk, `input` and `output` are the

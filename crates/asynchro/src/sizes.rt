@@ -4,8 +4,18 @@ ghost use mathlib.Core.Path.{_≡_};
 ghost use Prim.Native.Nat.{_≤_};
 ghost use Rattle.exact.specs.Doubles.{count};
 ghost use Rattle.asynchro.specs.Sizes.{
-    sizeOf, sizeOfCount, startOf, neededInput, neededOutput, maxInput, maxOutput, delayOf, isFrames,
-    framesOf, sizeIs, sizeHolds,
+  sizeOf,
+  sizeOfCount,
+  startOf,
+  neededInput,
+  neededOutput,
+  maxInput,
+  maxOutput,
+  delayOf,
+  isFrames,
+  framesOf,
+  sizeIs,
+  sizeHolds,
 };
 
 // Which side of a block has a fixed number of frames.

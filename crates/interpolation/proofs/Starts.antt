@@ -13,12 +13,12 @@ use Rattle.exact.specs.Doubles.{count, _*f_}
 use Rattle.exact.specs.Whole.{Whole, signed, _⊙_, Same, AtMost, Below}
 use Rattle.exact.specs.Exact.{exact, Number}
 use Rattle.whole.specs.Numbers.{Fraction}
-use Rattle.whole.specs.Rounded.{floorOf, roundOf, splitOf}
+use Rattle.whole.specs.Rounded.{floorOf, splitOf}
 use Rattle.whole.specs.declared.Parts.{Parts}
 use Rattle.whole.proofs.Casts.{counted-signed}
 use Rattle.whole.proofs.Counts.{floor-counted}
 use Rattle.whole.proofs.Splits.{split-frac}
-use Rattle.interpolation.specs.Grid.{inRange, innerOf, startOf, Ready}
+use Rattle.interpolation.specs.Grid.{inRange, innerOf, wholeBy, startOf, Ready}
 use Rattle.interpolation.specs.declared.Inner.{Inner}
 use Rattle.interpolation.specs.declared.Start.{Start}
 use Rattle.interpolation.proofs.Integers.{pairOf, abs-fits}
@@ -78,24 +78,24 @@ module _ (t : Float) (factor : ℕ) (f : T (fits binary64 t)) (h : inRange 1 t f
       ∙ ap (λ (s : Parts). inner (innerOf t factor .index) (s .frac *f n)) p
       ∙ ap (λ (n : Float). inner (innerOf t factor .index) (splitOf t .frac *f n)) r
 
-  -- the inner product x made a whole number by `how`
-  module _ (how : Float → Float) (w : WholeUpTo factor (how (innerOf t factor .product))) (i : Inner) (x : Float) (p : i ≡ innerOf t factor) (q : x ≡ how (i .product)) where
-    made-whole : x ≡ how (innerOf t factor .product)
-    made-whole = q ∙ ap (λ (i : Inner). how (i .product)) p
+  -- the inner product made a whole number, either way
+  product-whole : (nearest : Bool) → WholeUpTo factor (wholeBy nearest (innerOf t factor .product))
+  product-whole true = round-whole-up-to factor (innerOf t factor .product) (in-range 1 t factor h .2) (inner-up-to .0) (inner-up-to .1)
+  product-whole false = floor-whole factor (innerOf t factor .product) (in-range 1 t factor h .2) (inner-up-to .0) (inner-up-to .1)
+
+  -- x is what is made of it
+  module _ (nearest : Bool) (i : Inner) (x : Float) (p : i ≡ innerOf t factor) (q : x ≡ wholeBy nearest (i .product)) where
+    whole-is : x ≡ wholeBy nearest (innerOf t factor .product)
+    whole-is = q ∙ ap (λ (i : Inner). wholeBy nearest (i .product)) p
 
     pub start-cast : T (lt (fin true 1 (pos 0)) x) × T (lt x (fin false 1 (pos 64)))
     start-cast =
-        let c = whole-cast factor (how (innerOf t factor .product)) w in
-        rw made-whole (c .0, c .1)
+        let c = whole-cast factor (wholeBy nearest (innerOf t factor .product)) (product-whole nearest) in
+        rw whole-is (c .0, c .1)
 
-    pub start-is : (k : ℕ) → k ≡ toUnsigned 64 x → (start (toZ w64 (ofZ w64 (i .index))) k ≡ startOf how t factor) × Ready factor (start (toZ w64 (ofZ w64 (i .index))) k)
+    pub start-is : (k : ℕ) → k ≡ toUnsigned 64 x
+        → (start (toZ w64 (ofZ w64 (i .index))) k ≡ startOf (wholeBy nearest) t factor) × Ready factor (start (toZ w64 (ofZ w64 (i .index))) k)
     start-is k r =
-        let c = whole-cast factor (how (innerOf t factor .product)) w in
-        let e = ap (λ (z : ℤ). start z k) (index-back (i .index) (ap (λ (i : Inner). i .index) p)) ∙ ap (start (innerOf t factor .index)) (r ∙ ap (toUnsigned 64) made-whole) in
+        let c = whole-cast factor (wholeBy nearest (innerOf t factor .product)) (product-whole nearest) in
+        let e = ap (λ (z : ℤ). start z k) (index-back (i .index) (ap (λ (i : Inner). i .index) p)) ∙ ap (start (innerOf t factor .index)) (r ∙ ap (toUnsigned 64) whole-is) in
         (e, subst (Ready factor) (sym e) (floor-cast .2, c .2, in-range 1 t factor h .1, in-range 1 t factor h .2))
-
-  pub floor-start : WholeUpTo factor (floorOf (innerOf t factor .product))
-  floor-start = floor-whole factor (innerOf t factor .product) (in-range 1 t factor h .2) (inner-up-to .0) (inner-up-to .1)
-
-  pub round-start : WholeUpTo factor (roundOf (innerOf t factor .product))
-  round-start = round-whole-up-to factor (innerOf t factor .product) (in-range 1 t factor h .2) (inner-up-to .0) (inner-up-to .1)

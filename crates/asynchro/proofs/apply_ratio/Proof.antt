@@ -40,9 +40,9 @@ returns-4 c =
     pass _ _ _ _ _ (not-false _ (t .before .before .if2 .left)) (
     pass _ _ _ _ _ (passed (t .before .is-ratio .ensures) (t .if3 .left)) (
     c .update-lengths .ensures ∙ ap updateLengths (⊎-elim
-      (λ w. w .1 ∙ ap (withRatio (a .s) (a .r)) (sym (not-true (a .ramp) (w .0 .taken))))
-      (λ w. w .1 ∙ ap (withRatio (a .s) (a .r)) (sym (not-false (a .ramp) (w .0 .left))))
-      (c .before .if4 .came)))))
+    (λ w. w .1 ∙ ap (withRatio (a .s) (a .r)) (sym (not-true (a .ramp) (w .0 .taken))))
+    (λ w. w .1 ∙ ap (withRatio (a .s) (a .r)) (sym (not-false (a .ramp) (w .0 .left))))
+    (c .before .if4 .came)))))
 
 pub apply-ratio-spec : {M : Type 1} → statement M
 apply-ratio-spec =

@@ -11,15 +11,15 @@ in-range-requires c κs = search needs
 returns : tie.Need-returns
 returns c = grid-refused _ _ _ _ _ (failed (c .before .in-range .ensures) (c .if1 .taken))
 
-start-round-requires : tie.Need-start-round-requires
-start-round-requires c κs = passed (c .before .in-range .ensures) (c .if1 .left)
+start-of-requires : tie.Need-start-of-requires
+start-of-requires c κs = passed (c .before .in-range .ensures) (c .if1 .left)
 
 place-requires : tie.Need-place-requires
 place-requires c κs = search needs
 
 returns-2 : tie.Need-returns-2
 returns-2 c =
-    grid-given _ _ _ _ _ _ _ (passed (c .before .before .before .in-range .ensures) (c .before .before .if1 .left)) (c .before .start-round .ensures .0) (cc)
+    grid-given _ _ _ _ _ _ _ (passed (c .before .before .before .in-range .ensures) (c .before .before .if1 .left)) (c .before .start-of .ensures .0) (cc)
 
 pub get-nearest-time-spec : {M : Type 1} → statement M
-get-nearest-time-spec = tie.close (tie.spec in-range-requires returns start-round-requires place-requires returns-2)
+get-nearest-time-spec = tie.close (tie.spec in-range-requires returns start-of-requires place-requires returns-2)

@@ -11,8 +11,8 @@ in-range-requires c κs = search needs
 returns : tie.Need-returns
 returns c = grid-refused _ _ _ _ _ (failed (c .before .in-range .ensures) (c .if1 .taken))
 
-start-floor-requires : tie.Need-start-floor-requires
-start-floor-requires c κs = passed (c .before .in-range .ensures) (c .if1 .left)
+start-of-requires : tie.Need-start-of-requires
+start-of-requires c κs = passed (c .before .in-range .ensures) (c .if1 .left)
 
 place-requires : tie.Need-place-requires
 place-requires c κs = search needs
@@ -22,7 +22,7 @@ place-requires-2 c κs = search needs
 
 returns-2 : tie.Need-returns-2
 returns-2 c =
-    grid-given _ _ _ _ _ _ _ (passed (c .before .before .before .before .in-range .ensures) (c .before .before .before .if1 .left)) (c .before .before .start-floor .ensures .0) (cc)
+    grid-given _ _ _ _ _ _ _ (passed (c .before .before .before .before .in-range .ensures) (c .before .before .before .if1 .left)) (c .before .before .start-of .ensures .0) (cc)
 
 pub get-nearest-times-2-spec : {M : Type 1} → statement M
-get-nearest-times-2-spec = tie.close (tie.spec in-range-requires returns start-floor-requires place-requires place-requires-2 returns-2)
+get-nearest-times-2-spec = tie.close (tie.spec in-range-requires returns start-of-requires place-requires place-requires-2 returns-2)

@@ -13,8 +13,8 @@ in-range-requires c κs = search needs
 returns : tie.Need-returns
 returns c = grid-refused _ _ _ _ _ (failed (c .before .in-range .ensures) (c .if1 .taken))
 
-start-floor-requires : tie.Need-start-floor-requires
-start-floor-requires c κs = in-range-one 3 (c .before .before .args .t) (c .before .before .args .factor) (lit< tt) (passed (c .before .in-range .ensures) (c .if1 .left))
+start-of-requires : tie.Need-start-of-requires
+start-of-requires c κs = in-range-one 3 (c .before .before .args .t) (c .before .before .args .factor) (lit< tt) (passed (c .before .in-range .ensures) (c .if1 .left))
 
 place-requires : tie.Need-place-requires
 place-requires c κs = search needs
@@ -30,7 +30,7 @@ place-requires-4 c κs = search needs
 
 returns-2 : tie.Need-returns-2
 returns-2 c =
-    grid-given _ _ _ _ _ _ _ (passed (c .before .before .before .before .before .before .in-range .ensures) (c .before .before .before .before .before .if1 .left)) (c .before .before .before .before .start-floor .ensures .0) (cc)
+    grid-given _ _ _ _ _ _ _ (passed (c .before .before .before .before .before .before .in-range .ensures) (c .before .before .before .before .before .if1 .left)) (c .before .before .before .before .start-of .ensures .0) (cc)
 
 pub get-nearest-times-4-spec : {M : Type 1} → statement M
-get-nearest-times-4-spec = tie.close (tie.spec in-range-requires returns start-floor-requires place-requires place-requires-2 place-requires-3 place-requires-4 returns-2)
+get-nearest-times-4-spec = tie.close (tie.spec in-range-requires returns start-of-requires place-requires place-requires-2 place-requires-3 place-requires-4 returns-2)

@@ -40,18 +40,18 @@ module _ (start : Start) (factor ahead : ℕ) (h : natAbs (start .index) ≤ 450
 add-index : tie.Need-add-index Inv-loop μ-loop
 add-index c =
     let a = c .before .before .before .before .before in
-    carried-fits (begun (a .args .start) (a .args .factor) (a .args .ahead) (a .pre .0 .0) (a .pre .0 .2)) (c .before .loop .inv) (a .pre .0 .2) (c .loop-test .taken) (a .pre .0 .0) (omega arith)
+    carried-fits (begun (a .args .start) (a .args .factor) (a .args .ahead) (a .pre .0 .0) (a .pre .0 .2)) (c .before .loop .inv) (a .pre .0 .2) (omega arith) (a .pre .0 .0) (omega arith)
 
 loop-less : tie.Need-loop-less Inv-loop μ-loop
 loop-less c = omega arith
 
 loop-again : tie.Need-loop-again Inv-loop μ-loop
-loop-again c = carried-next _ (c .before .loop .inv) (c .loop-test .taken) (toZ-ofZ w64 _ (add-index c))
+loop-again c = carried-next _ (c .before .loop .inv) (omega arith) (toZ-ofZ w64 _ (add-index c))
 
 returns : tie.Need-returns Inv-loop μ-loop
 returns c =
     let a = c .before .before .before .before .before in
-    carried-done (begun (a .args .start) (a .args .factor) (a .args .ahead) (a .pre .0 .0) (a .pre .0 .2)) (c .before .loop .inv) (c .loop-test .left)
+    carried-done (begun (a .args .start) (a .args .factor) (a .args .ahead) (a .pre .0 .0) (a .pre .0 .2)) (c .before .loop .inv) (omega arith)
 
 pub place-spec : {M : Type 1} → statement M
 place-spec =

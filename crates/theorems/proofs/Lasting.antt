@@ -1,0 +1,12 @@
+-- Calls can follow each other for ever: what a construction, a setting, a block or a reset leaves passes the StateRecord test, so no call of a history is refused 10. Restated from crates/position. Assumes nothing.
+use mathlib.Core.Bool.{true}
+use mathlib.Core.List.{List}
+use mathlib.Core.Path.{_≡_}
+use Rattle.asynchro.specs.declared.record.State.{State}
+use Rattle.asynchro.specs.Record.{isState}
+use Rattle.position.specs.History.{Start, Call}
+use Rattle.position.specs.Position.{opened, ledger}
+use Rattle.position.proofs.Lasting.{lasting}
+
+pub every-record-passes : (s : State) → Start s → (cs : List Call) → isState (ledger s (opened s) cs .state) ≡ true
+every-record-passes = lasting
