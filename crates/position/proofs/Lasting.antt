@@ -3,15 +3,14 @@ use mathlib.Core.Bool.{true}
 use mathlib.Core.List.{List, [], _∷_}
 use mathlib.Core.Path.{_≡_, refl}
 use Prim.Native.Nat.{ℕ}
-use native.Mathlib.Omega.{arith}
 use lib.Ieee.{Float}
 use lib.ListN.{length}
 use Rattle.error.specs.Refusals.{Said, given, refused}
 use Rattle.asynchro.specs.declared.record.State.{State}
 use Rattle.asynchro.specs.Record.{isState}
 use Rattle.asynchro.proofs.Keeps.{ratio-keeps, relative-keeps, chunk-keeps, construct-keeps}
-use Rattle.process.specs.Block.{planned, blockEnd, resetting, resetEnd}
-use Rattle.process.proofs.Keeps.{reset-keeps}
+use Rattle.process.specs.Block.{planned, blockEnd}
+use Rattle.process.proofs.Keeps.{reset-leaves}
 use Rattle.position.specs.History.{Doubles, Start, constructed, restarted, Call, ratio, relative, chunk, block, after}
 use Rattle.position.specs.Position.{Account, opened, accounted, ledger}
 use Rattle.position.proofs.Keeps.{start-doubles}
@@ -34,13 +33,9 @@ unfolding ledger
 calls-state s a [] n h = h
 calls-state s a (c ∷ cs) n h = calls-state (after s c) (accounted s a c) cs (call-near s a c n) (call-state s c (n .doubles) h)
 
-reset-state : (s : State) (work : List Float) (r : Said State) → resetting s (length work) ≡ r → resetEnd s work r .said ≡ given tt → isState (resetEnd s work r .state) ≡ true
-reset-state s work (given t) e k = reset-keeps s t (length work) e
-reset-state s work (refused n vs) e k = absurd (let z : _≡_ {A = ℕ} 0 1 = cc in omega arith)
-
 start-state : (s : State) → Start s → isState s ≡ true
 start-state s (constructed r m degree c channels fixed s′ d e) = construct-keeps r m degree c channels fixed s′ e
-start-state s (restarted s′ work d e) = reset-state s′ work _ refl e
+start-state s (restarted s′ work d e) = reset-leaves s′ work e
 
 pub lasting : (s : State) → Start s → (cs : List Call) → isState (ledger s (opened s) cs .state) ≡ true
 lasting s start cs = calls-state s (opened s) cs (opened-near s (start-doubles s start)) (start-state s start)
