@@ -1,12 +1,10 @@
 // The block run and reset. Two passes: the first works out every refusal and the record to come
 // and writes nothing; the second writes.
 use asynchro::record::{Made, State};
-use asynchro::sizes::Size;
 use asynchro::{Done, Outcome};
 use error::Refusal;
 ghost use mathlib.Core.Path.{_≡_};
 ghost use mathlib.Core.Bool.{true};
-ghost use Prim.Native.Nat.{_<_, _≤_};
 ghost use lib.ListN.{length};
 ghost use Rattle.asynchro.specs.Record.{isState, saidMade};
 ghost use Rattle.process.specs.Block.{
@@ -200,6 +198,7 @@ pub fn process_into_buffer(
     }
 }
 
+// The record as reset restores it, before its sizes are worked out: the fill stays.
 fn restored_state(s: State) -> State
     ensures { λ r. ⌜ r ≡ restored s ⌝ }
 {
