@@ -3,14 +3,59 @@
 // through a mutable reference".
 use asynchro::Done;
 use asynchro::record::State;
+use process::Ran;
 ghost use mathlib.Core.Path.{_≡_};
-ghost use Rattle.asynchro.specs.Calls.{resultOf, setChunk};
+ghost use Rattle.asynchro.specs.Calls.{resultOf, setRatio, setRelative, setChunk};
+ghost use Rattle.process.specs.Block.{blockOf, blockLeft, resetOf, resetLeft};
+
+// An absolute ratio setting.
+pub fn set_resample_ratio(s: &mut State, r: f64, ramp: bool) -> Done
+    ensures { λ a. ⌜ resultOf (record { state = now (s .exit); answer = a }) ≡ setRatio (now (s .entry)) r ramp ⌝ }
+{
+    let o = asynchro::set_resample_ratio(*s, r, ramp);
+    *s = o.state;
+    o.answer
+}
+
+// A relative ratio setting.
+pub fn set_resample_ratio_relative(s: &mut State, rel: f64, ramp: bool) -> Done
+    ensures { λ a. ⌜ resultOf (record { state = now (s .exit); answer = a }) ≡ setRelative (now (s .entry)) rel ramp ⌝ }
+{
+    let o = asynchro::set_resample_ratio_relative(*s, rel, ramp);
+    *s = o.state;
+    o.answer
+}
 
 // A chunk setting.
 pub fn set_chunk_size(s: &mut State, n: usize) -> Done
-    ensures { λ r. ⌜ resultOf (record { state = now (s .exit); answer = r }) ≡ setChunk (now (s .entry)) n ⌝ }
+    ensures { λ a. ⌜ resultOf (record { state = now (s .exit); answer = a }) ≡ setChunk (now (s .entry)) n ⌝ }
 {
     let o = asynchro::set_chunk_size(*s, n);
+    *s = o.state;
+    o.answer
+}
+
+// The block run.
+pub fn process_into_buffer(
+    s: &mut State,
+    frames: usize,
+    mask: u64,
+    input: &[f64],
+    output: &mut [f64],
+    work: &mut [f64],
+) -> Ran
+    ensures { λ a. ⌜ blockLeft (record { state = now (s .exit); answer = a }) (now (output .exit)) (now (work .exit)) ≡ blockOf (now (s .entry)) frames mask (now (input .entry)) (now (output .entry)) (now (work .entry)) ⌝ }
+{
+    let o = process::process_into_buffer(*s, frames, mask, input, output, work);
+    *s = o.state;
+    o.answer
+}
+
+// Reset.
+pub fn reset(s: &mut State, work: &mut [f64]) -> Done
+    ensures { λ a. ⌜ resetLeft (record { state = now (s .exit); answer = a }) (now (work .exit)) ≡ resetOf (now (s .entry)) (now (work .entry)) ⌝ }
+{
+    let o = process::reset(*s, work);
     *s = o.state;
     o.answer
 }

@@ -5,15 +5,16 @@ use mathlib.Core.Path.{_≡_, ap, _∙_}
 use Prim.Native.Nat.{ℕ}
 use lib.IntN.{ℤ, _+ℤ_}
 use lib.Ieee.{Float}
-use Rattle.error.specs.Refusals.{Said, given, refused}
+use Rattle.error.specs.Refusals.{given, refused}
 use Rattle.error.proofs.Ladder.{pass, stop}
-use Rattle.interpolation.specs.Grid.{inRange, pointOf, startOf, qOf, gridSaid}
+use Rattle.interpolation.specs.Grid.{inRange, pointOf, gridSaid}
+use Rattle.interpolation.specs.Steps.{startOf, startQ}
 use Rattle.interpolation.specs.declared.Point.{Point}
 use Rattle.interpolation.specs.declared.Start.{Start}
 
 -- the points from the start s
 abbrev pub pointsOf : ℕ → Start → List ℤ → List Point
-pointsOf factor s = map (λ o. pointOf factor (qOf factor s +ℤ o))
+pointsOf factor s = map (λ o. pointOf factor (startQ factor s +ℤ o))
 
 module _ (least : ℕ) (how : Float → Float) (offsets : List ℤ) (t : Float) (factor : ℕ) where
   pub grid-refused : inRange least t factor ≡ false → refused 11 [] ≡ gridSaid least how offsets t factor

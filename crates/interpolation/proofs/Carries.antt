@@ -1,16 +1,16 @@
 -- The loop of `place`: each turn moves one whole time from the parts to the index. Assumes nothing.
-use mathlib.Core.Path.{_≡_, refl, sym, ap, _∙_, subst}
-use Prim.Native.Nat.{ℕ, zero, suc, _+_, _-_, _*_, _≤_, _<_}
+use mathlib.Core.Path.{_≡_, sym, ap, _∙_}
+use Prim.Native.Nat.{ℕ, suc, _+_, _-_, _*_, _≤_, _<_}
 use native.Mathlib.Omega.{arith}
 use native.Mathlib.Nat.{le-mul-of-pos-right}
 use lib.IntN.{ℤ, pos, negsuc, natAbs, _+ℤ_, _-ℤ_, _*ℤ_, +ℤ-idr, +ℤ-assoc}
 use mir.Syntax.{w64}
 use mir.Val.{SFits}
-use Rattle.exact.specs.Whole.{Whole, _⊕_, _⊙_, Same}
+use Rattle.exact.specs.Whole.{Whole, _⊕_, _⊙_}
 use Rattle.exact.specs.Integers.{Is}
 use Rattle.exact.proofs.Integers.{plus-is}
-use Rattle.interpolation.specs.Grid.{pointOf, qOf}
-use Rattle.interpolation.specs.declared.Point.{Point}
+use Rattle.interpolation.specs.Grid.{pointOf}
+use Rattle.interpolation.specs.Steps.{startQ}
 use Rattle.interpolation.specs.declared.Start.{Start}
 use Rattle.interpolation.proofs.Integers.{pairOf, pair-is, pair-abs, same-int, abs-is, abs-fits, at-is}
 use Rattle.interpolation.proofs.Points.{point-unique}
@@ -28,7 +28,7 @@ pub carried-next : {f : ℕ} {i₀ : ℤ} {p₀ : ℕ} {i : ℤ} {p : ℕ} (j : 
 carried-next {f} {i₀} {p₀} {i} {p} j c h e = record {
   turns = c .turns + 1;
   index-is = e ∙ ap (λ (z : ℤ). z +ℤ pos 1) (c .index-is) ∙ +ℤ-assoc i₀ (pos (c .turns)) (pos 1);
-  parts-are = omega (arith, c .parts-are)
+  parts-are = omega (arith, c .parts-are);
 }
 
 -- the start lies one whole time lower than s, and so many parts further on
@@ -54,14 +54,14 @@ module _ {s : Start} {f ahead : ℕ} {i₀ : ℤ} {p₀ : ℕ} {i : ℤ} {p : �
       abs-fits (i +ℤ pos 1) (abs-is (i +ℤ pos 1) 4611686018427387904 (v ⊕ (1, 0)) (plus-is i (pos 1) v (1, 0) index-pair (pair-is (pos 1))) (omega (arith, c .parts-are)) (omega (arith, c .parts-are)))
 
   -- fewer parts than a whole time has are left: this is the point
-  pub carried-done : p < f → record { index = i; subindex = p } ≡ pointOf f (qOf f s +ℤ (pos ahead -ℤ pos 1))
+  pub carried-done : p < f → record { index = i; subindex = p } ≡ pointOf f (startQ f s +ℤ (pos ahead -ℤ pos 1))
   carried-done h =
       let w = f ⊙ pairOf (s .index) ⊕ (s .parts, 0) in
       let o = (ahead, 0) ⊕ (0, 1) in
-      point-unique f (qOf f s +ℤ (pos ahead -ℤ pos 1)) (record { index = i; subindex = p })
+      point-unique f (startQ f s +ℤ (pos ahead -ℤ pos 1)) (record { index = i; subindex = p })
       (record {
-        equation = same-int (i *ℤ pos f +ℤ pos p) (qOf f s +ℤ (pos ahead -ℤ pos 1)) (f ⊙ v ⊕ (p, 0)) (w ⊕ o) (at-is i f p v index-pair)
-        (plus-is (qOf f s) (pos ahead -ℤ pos 1) w o (at-is (s .index) f (s .parts) (pairOf (s .index)) (pair-is (s .index))) (plus-is (pos ahead) (negsuc 0) (ahead, 0) (0, 1) (pair-is (pos ahead)) (pair-is (negsuc 0))))
-        (omega (arith, c .parts-are, b .further));
-        inside = h
+        equation = same-int (i *ℤ pos f +ℤ pos p) (startQ f s +ℤ (pos ahead -ℤ pos 1)) (f ⊙ v ⊕ (p, 0)) (w ⊕ o) (at-is i f p v index-pair)
+            (plus-is (startQ f s) (pos ahead -ℤ pos 1) w o (at-is (s .index) f (s .parts) (pairOf (s .index)) (pair-is (s .index))) (plus-is (pos ahead) (negsuc 0) (ahead, 0) (0, 1) (pair-is (pos ahead)) (pair-is (negsuc 0))))
+            (omega (arith, c .parts-are, b .further));
+        inside = h;
       })

@@ -1,10 +1,10 @@
 -- Worked examples: bench cases 10 and 11 of document 01, a factor of 1 at a fraction that rounds to 1.0, halves, and the ends of the range. Assumes nothing.
-use mathlib.Core.List.{List, [], _∷_}
+use mathlib.Core.List.{[], _∷_}
 use mathlib.Core.Path.{_≡_, refl}
 use Prim.Native.Nat.{ℕ}
 use lib.IntN.{ℤ, pos, negsuc}
-use lib.Ieee.{Float, binary64, round, neg, lt, add, sub, mul, ofInt, ofBits, toSigned, toUnsigned}
-use Rattle.error.specs.Refusals.{Said, given, refused, unless}
+use lib.Ieee.{Float, binary64, neg, lt, sub, mul, ofInt, ofBits, toSigned, toUnsigned}
+use Rattle.error.specs.Refusals.{given, refused, unless}
 use Rattle.whole.specs.Rounded.{madeWhole}
 use Rattle.interpolation.specs.Grid.{pointOf, gridSaid, nearest1, nearest2, nearest3, nearest4}
 use Rattle.interpolation.specs.declared.Point.{Point}
@@ -49,7 +49,7 @@ three-up : nearest3 (bits 0xbc30_0000_0000_0000) 3 ≡ given (at (pos 0) 0 ∷ a
 unfolding gridSaid pointOf unless madeWhole ofInt ofBits neg lt sub mul toSigned toUnsigned
 three-up = refl
 
--- the last t below 2^52, 2^52 - 0.5, with the largest factor: q has 72 digits
+-- the last t below 2^52, 2^52 - 0.5, with the largest factor: q has 72 binary digits
 last-time : nearest2 (bits 0x432f_ffff_ffff_ffff) 1048576 ≡ given (at (pos 4503599627370495) 524288 ∷ at (pos 4503599627370495) 524289 ∷ [])
 unfolding gridSaid pointOf unless madeWhole ofInt ofBits neg lt sub mul toSigned toUnsigned
 last-time = refl

@@ -1,6 +1,6 @@
 -- Whole numbers with a sign are equal where the pairs of naturals that they are the differences of say so. Assumes nothing.
-use mathlib.Core.Path.{_≡_, refl, sym, ap, _∙_, subst}
-use Prim.Native.Nat.{ℕ, zero, suc, _+_, _*_, _≤_}
+use mathlib.Core.Path.{_≡_, sym, ap, _∙_, subst}
+use Prim.Native.Nat.{ℕ, suc, _+_, _*_, _≤_}
 use native.Mathlib.Omega.{arith}
 use lib.IntN.{ℤ, pos, negsuc, natAbs, _+ℤ_, _-ℤ_, _*ℤ_}
 use mir.Syntax.{w64}
@@ -49,7 +49,6 @@ pair-abs (negsuc n) = omega arith
 pub abs-fits : (z : ℤ) → natAbs z ≤ 4611686018427387904 → SFits w64 z
 abs-fits (pos n) h = record { sfits = omega arith }
 abs-fits (negsuc n) h = record { sfits = omega arith }
-
 
 -- one less, in the machine: what it asks, and what it gives
 pub lowered : (z : ℤ) → natAbs z ≤ 4503599627370496 → SFits w64 (toZ w64 (ofZ w64 z) -ℤ pos 1) × (toZ w64 (ofZ w64 (toZ w64 (ofZ w64 z) -ℤ pos 1)) ≡ z -ℤ pos 1)

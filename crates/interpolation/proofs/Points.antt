@@ -1,10 +1,10 @@
 -- Document 01, "Grid points": index*factor+subindex = q, and the subindex lies in 0..factor-1; and these two settle the point. Assumes nothing.
-use mathlib.Core.Path.{_≡_, refl, sym, ap, _∙_, subst}
-use Prim.Native.Nat.{ℕ, zero, suc, _+_, _-_, _*_, _/_, _%_, _≤_, _<_}
+use mathlib.Core.Path.{_≡_, sym, ap, _∙_, subst}
+use Prim.Native.Nat.{ℕ, suc, _+_, _-_, _*_, _/_, _%_, _<_}
 use native.Mathlib.Nat.{mod-lt, div-add-mod', div-eq-of-lt, mul-add-div-right}
 use native.Mathlib.Omega.{arith}
 use lib.IntN.{ℤ, pos, negsuc, _+ℤ_, _*ℤ_}
-use Rattle.exact.specs.Whole.{Whole, _⊕_, _⊙_, Same}
+use Rattle.exact.specs.Whole.{_⊕_, _⊙_}
 use Rattle.exact.specs.Integers.{Is}
 use Rattle.interpolation.specs.Grid.{Numbered, pointOf}
 use Rattle.interpolation.specs.declared.Point.{Point}
@@ -17,9 +17,9 @@ point-equation f (negsuc n) h =
     let r = mod-lt n h in
     record {
       equation = same-int (negsuc (n / f) *ℤ pos f +ℤ pos (f - 1 - n % f)) (negsuc n) (f ⊙ (0, suc (n / f)) ⊕ (f - 1 - n % f, 0)) (0, suc n)
-      (at-is (negsuc (n / f)) f (f - 1 - n % f) (0, suc (n / f)) (pair-is (negsuc (n / f)))) (pair-is (negsuc n))
-      (omega (arith, div-add-mod' n f));
-      inside = omega arith
+          (at-is (negsuc (n / f)) f (f - 1 - n % f) (0, suc (n / f)) (pair-is (negsuc (n / f)))) (pair-is (negsuc n))
+          (omega (arith, div-add-mod' n f));
+      inside = omega arith;
     }
 
 -- what is left over of a and b whole times is equal, and so are they
@@ -50,5 +50,6 @@ point-unique f q p h = go (numbered-pos f (p .subindex) (h .inside))
   where
     numbered-pos : (f r : ℕ) → r < f → 0 < f
     numbered-pos f r h = omega arith
+
     go : 0 < f → p ≡ pointOf f q
     go P = numbered-once f q p (pointOf f q) h (point-equation f q P)

@@ -1,18 +1,18 @@
 -- A fraction from 0 to 1 times a count, rounded once, lies from 0 to the count; and so do its floor and its nearest whole number. Assumes nothing.
 use mathlib.Core.Bool.{Bool, true, false, true≢false}
-use mathlib.Core.Path.{_≡_, refl, sym, ap, _∙_, subst}
+use mathlib.Core.Path.{_≡_, sym, ap, _∙_, subst}
 use Prim.Native.Nat.{ℕ, zero, suc, _+_, _*_, _/_, _^_, _≤_, _<_}
 use native.Mathlib.Nat.{le-of-suc-le-suc, lt-of-le-of-lt, lt-of-mul-lt-mul-right, le-of-mul-le-mul-right, mul-le-mul-right, mul-lt-mul-of-pos-right, mul-pos, mul-one, zero-mul, zero-lt-suc}
 use native.Mathlib.Omega.{arith}
 use lib.Dec.{T, lit≤}
-use lib.IntN.{ℤ, pos}
-use lib.Ieee.{Float, nan, inf, fin, Format, binary32, binary64, prec, emax, low, up, down, unlike, round, fits, le, lt, mul, ofInt, toUnsigned}
+use lib.IntN.{pos}
+use lib.Ieee.{Float, nan, inf, fin, Format, binary32, binary64, prec, emax, low, up, down, round, lt, mul, ofInt, toUnsigned}
 use lib.Ieee.Back.{round-whole}
 use lib.Ieee.Exact.{HasValue}
 use lib.Ieee.Fits.{down-pos, round-fits}
 use lib.Ieee.Order.{round-mono}
-use lib.Ieee.Scale.{finite, grid, round-same}
-use lib.Pow.{pow-pos, pow-mono, pow-add}
+use lib.Ieee.Scale.{grid, round-same}
+use lib.Pow.{pow-pos}
 use Rattle.exact.specs.Doubles.{count, _*f_}
 use Rattle.exact.specs.Whole.{Whole, signed, _⊙_, Same, Less, AtMost, Below}
 use Rattle.exact.specs.Exact.{mag, exact, Number}
@@ -41,11 +41,13 @@ module _ (f : Format) (n : ℕ) (l : n < 2 ^ prec f) where
   plain a c C h =
       let r = round-near f false a c (prec f) C (lt-of-le-of-lt h (mul-lt-mul-of-pos-right l C)) (fine f) in
       let o : Number f (round f false n 1) = (finite-of (round f false n 1) false n 1 (round-whole f false n (omega arith)), round-fits f false n 1) in
-      let g : exact f (round f false a c) ≡ signed false (grid f a c) = round-finite f false a c (r .0 .0) in
-      (r .0, record {
-        atLeast = rw g (omega arith);
-        atMost = subst (AtMost (exact f (round f false a c))) (int-exact f false n (omega arith)) (le-exact f (round f false a c) (round f false n 1) (r .0) o .0 (round-mono f a c n 1 C (zero-lt-suc 0) (omega arith)))
-      })
+      let g : exact f (round f false a c) ≡ signed false (grid f a c) = round-finite f false a c (r .0 .0) in (
+        r .0,
+        record {
+          atLeast = rw g (omega arith);
+          atMost = subst (AtMost (exact f (round f false a c))) (int-exact f false n (omega arith)) (le-exact f (round f false a c) (round f false n 1) (r .0) o .0 (round-mono f a c n 1 C (zero-lt-suc 0) (omega arith)));
+        },
+      )
 
   -- a negative zero
   minus : (c : ℕ) → 0 < c → Number f (round f true 0 c) × UpTo (2 ^ low f) n (exact f (round f true 0 c))

@@ -1,7 +1,7 @@
 -- What the test of the range says of t and the factor, in numbers. Assumes nothing.
-use mathlib.Core.Bool.{Bool, true, false, not, _&&_}
-use mathlib.Core.Path.{_≡_, refl, sym, ap, _∙_, subst}
-use Prim.Native.Nat.{ℕ, _+_, _*_, _^_, _≤_, _<_}
+use mathlib.Core.Bool.{Bool, true, false, _&&_}
+use mathlib.Core.Path.{_≡_, refl, sym, subst}
+use Prim.Native.Nat.{ℕ, _+_, _^_, _≤_, _<_}
 use native.Mathlib.Omega.{arith}
 use borrow.Author.Tests.{le-leb}
 use lib.Dec.{T, leb, leb→le}
@@ -54,6 +54,8 @@ small-number t f h =
     let a = subst T (sym h) tt in
     let l : T (lt (fin true 1 (pos 52)) t) = and-l (lt (neg limitF) t) (lt t limitF) a in
     let u : T (lt t (fin false 1 (pos 52))) = and-r (lt (neg limitF) t) (lt t limitF) a in
-    let n : Number binary64 t = (finite-between true false 1 1 (pos 52) (pos 52) t l u, f) in
-    (n, both (2 ^ (52 + low binary64)) (exact binary64 (fin true 1 (pos 52))) (exact binary64 t) (exact binary64 (fin false 1 (pos 52))) refl refl
-    (lt-exact binary64 (fin true 1 (pos 52)) t (tt, tt) n .0 l) (lt-exact binary64 t (fin false 1 (pos 52)) n (tt, tt) .0 u))
+    let n : Number binary64 t = (finite-between true false 1 1 (pos 52) (pos 52) t l u, f) in (
+      n,
+      both (2 ^ (52 + low binary64)) (exact binary64 (fin true 1 (pos 52))) (exact binary64 t) (exact binary64 (fin false 1 (pos 52))) refl refl
+          (lt-exact binary64 (fin true 1 (pos 52)) t (tt, tt) n .0 l) (lt-exact binary64 t (fin false 1 (pos 52)) n (tt, tt) .0 u),
+    )

@@ -1,6 +1,6 @@
 -- Where q lies, for a t below 2 ^ 52 in size: what the casts to whole numbers ask, and how far the start can be. Assumes nothing.
 use mathlib.Core.Bool.{Bool, true, false, cond}
-use mathlib.Core.Path.{_≡_, refl, sym, ap, _∙_, subst}
+use mathlib.Core.Path.{_≡_, sym, ap, _∙_, subst}
 use Prim.Native.Nat.{ℕ, zero, suc, _+_, _*_, _^_, _≤_}
 use native.Mathlib.Omega.{arith}
 use lib.Dec.{T, lit≤}
@@ -12,18 +12,18 @@ use mir.ValLaws.{toZ-ofZ}
 use Rattle.exact.specs.Doubles.{count, _*f_}
 use Rattle.exact.specs.Whole.{Whole, signed, _⊙_, Same, AtMost, Below}
 use Rattle.exact.specs.Exact.{exact, Number}
-use Rattle.whole.specs.Numbers.{Fraction}
 use Rattle.whole.specs.Rounded.{floorOf, splitOf}
 use Rattle.whole.specs.declared.Parts.{Parts}
 use Rattle.whole.proofs.Casts.{counted-signed}
 use Rattle.whole.proofs.Counts.{floor-counted}
 use Rattle.whole.proofs.Splits.{split-frac}
-use Rattle.interpolation.specs.Grid.{inRange, innerOf, wholeBy, startOf, Ready}
+use Rattle.interpolation.specs.Grid.{inRange}
+use Rattle.interpolation.specs.Steps.{innerOf, wholeBy, startOf, Ready}
 use Rattle.interpolation.specs.declared.Inner.{Inner}
 use Rattle.interpolation.specs.declared.Start.{Start}
 use Rattle.interpolation.proofs.Integers.{pairOf, abs-fits}
 use Rattle.interpolation.proofs.Range.{in-range, small-number}
-use Rattle.interpolation.proofs.Product.{UpTo, WholeUpTo, product-up-to, floor-whole, round-whole-up-to, whole-cast}
+use Rattle.interpolation.proofs.Product.{UpTo, WholeUpTo, product-up-to, floor-whole, round-whole-up-to, whole-cast, whole-value}
 
 signed-abs : (s : Bool) (n b : ℕ) → n ≤ b → natAbs (cond s (negℤ (pos n)) (pos n)) ≤ b
 signed-abs false n b h = h
@@ -82,6 +82,10 @@ module _ (t : Float) (factor : ℕ) (f : T (fits binary64 t)) (h : inRange 1 t f
   product-whole : (nearest : Bool) → WholeUpTo factor (wholeBy nearest (innerOf t factor .product))
   product-whole true = round-whole-up-to factor (innerOf t factor .product) (in-range 1 t factor h .2) (inner-up-to .0) (inner-up-to .1)
   product-whole false = floor-whole factor (innerOf t factor .product) (in-range 1 t factor h .2) (inner-up-to .0) (inner-up-to .1)
+
+  -- nothing is cut: the parts are the value of what was made
+  pub parts-value : (nearest : Bool) → Same (exact binary64 (wholeBy nearest (innerOf t factor .product))) (2 ^ low binary64 ⊙ (startOf (wholeBy nearest) t factor .parts, 0))
+  parts-value nearest = whole-value factor (wholeBy nearest (innerOf t factor .product)) (product-whole nearest)
 
   -- x is what is made of it
   module _ (nearest : Bool) (i : Inner) (x : Float) (p : i ≡ innerOf t factor) (q : x ≡ wholeBy nearest (i .product)) where

@@ -1,17 +1,15 @@
 -- Document 01, "Grid points". Definitions only.
-use mathlib.Core.Bool.{Bool, _&&_, cond}
+use mathlib.Core.Bool.{Bool, _&&_}
 use mathlib.Core.List.{List, [], _∷_, map}
 use mathlib.Core.Path.{_≡_}
-use Prim.Native.Nat.{ℕ, _-_, _/_, _%_, _≤_, _<_}
+use Prim.Native.Nat.{ℕ, _-_, _/_, _%_, _<_}
 use lib.Dec.{leb}
-use lib.IntN.{ℤ, pos, negsuc, natAbs, _+ℤ_, _*ℤ_}
+use lib.IntN.{ℤ, pos, negsuc, _+ℤ_, _*ℤ_}
 use lib.Ieee.{Float, binary64, neg, lt, ofBits, toSigned, toUnsigned}
 use Rattle.exact.specs.Doubles.{_*f_, count}
 use Rattle.error.specs.Refusals.{numberOf, valuesOf, Said, given, refused, unless}
 use Rattle.whole.specs.Rounded.{floorOf, roundOf, splitOf}
 use Rattle.interpolation.specs.declared.Point.{Point}
-use Rattle.interpolation.specs.declared.Inner.{Inner}
-use Rattle.interpolation.specs.declared.Start.{Start}
 use Rattle.interpolation.specs.declared.Times1.{Times1}
 use Rattle.interpolation.specs.declared.Times1.the-variants as times1
 use Rattle.interpolation.specs.declared.Times2.{Times2}
@@ -43,29 +41,15 @@ unfoldable pub pointOf : ℕ → ℤ → Point
 pointOf factor (pos n) = record { index = pos (n / factor); subindex = n % factor }
 pointOf factor (negsuc n) = record { index = negsuc (n / factor); subindex = factor - 1 - n % factor }
 
--- "q = floor(t)*factor + floor((t-floor(t))*factor), the inner product in f64": floor(t) and the inner product, both from the split of t
-abbrev pub innerOf : Float → ℕ → Inner
-innerOf t factor = record { index = toSigned 63 (splitOf t .floor); product = splitOf t .frac *f count factor }
-
--- the product made a whole number: its floor, or the nearest one, a half away from zero
-abbrev pub wholeBy : Bool → Float → Float
-wholeBy nearest = cond nearest roundOf floorOf
-
--- floor(t), and the product made a whole number as `how` has it
-abbrev pub startOf : (Float → Float) → Float → ℕ → Start
-startOf how t factor = record { index = innerOf t factor .index; parts = toUnsigned 64 (how (innerOf t factor .product)) }
-
--- in range a start is no further off than 2 ^ 52, and has no more parts than a whole time: a fraction of 1.0 gives that many
-abbrev pub Ready : ℕ → Start → Type 0
-Ready factor s = (natAbs (s .index) ≤ 4503599627370496) × (s .parts ≤ factor) × (0 < factor) × (factor ≤ 1048576)
-
-abbrev pub qOf : ℕ → Start → ℤ
-qOf factor s = s .index *ℤ pos factor +ℤ pos (s .parts)
+-- "q = floor(t)*factor + floor((t-floor(t))*factor), the inner product in f64". `how` is the inner floor; for one point it is round half away from zero.
+-- floor(t) and t-floor(t) come from the split of t; in range the casts to whole numbers cut nothing (proofs/Starts.antt)
+abbrev pub qOf : (Float → Float) → Float → ℕ → ℤ
+qOf how t factor = toSigned 63 (splitOf t .floor) *ℤ pos factor +ℤ pos (toUnsigned 64 (how (splitOf t .frac *f count factor)))
 
 -- the points q + o, for each of the offsets, or refusal 11
 unfoldable pub gridSaid : ℕ → (Float → Float) → List ℤ → Float → ℕ → Said (List Point)
 gridSaid least how offsets t factor =
-    unless (inRange least t factor) 11 [] (given (map (λ o. pointOf factor (qOf factor (startOf how t factor) +ℤ o)) offsets))
+    unless (inRange least t factor) 11 [] (given (map (λ o. pointOf factor (qOf how t factor +ℤ o)) offsets))
 
 -- "Four points give index*factor+subindex = q-1, q, q+1, q+2; three give q, q+1, q+2; two give q, q+1; one uses round half away from zero"
 abbrev pub nearest1 : Float → ℕ → Said (List Point)
@@ -80,7 +64,7 @@ nearest3 = gridSaid 3 floorOf (pos 0 ∷ pos 1 ∷ pos 2 ∷ [])
 abbrev pub nearest4 : Float → ℕ → Said (List Point)
 nearest4 = gridSaid 3 floorOf (negsuc 0 ∷ pos 0 ∷ pos 1 ∷ pos 2 ∷ [])
 
--- the answers in document 01's words
+-- ---- the answers in document 01's words
 abbrev pub saidTimes1 : Times1 → Said (List Point)
 saidTimes1 (times1.At a) = given (a ∷ [])
 saidTimes1 (times1.Refused r) = refused (numberOf r) (valuesOf r)

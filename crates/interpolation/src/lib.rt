@@ -6,7 +6,8 @@ ghost use mathlib.Core.Path.{_≡_};
 ghost use mathlib.Core.Bool.{true};
 ghost use Prim.Native.Nat.{_≤_};
 ghost use lib.IntN.{pos, _+ℤ_, _-ℤ_};
-ghost use Rattle.interpolation.specs.Grid.{inRange, pointOf, innerOf, wholeBy, startOf, Ready, qOf, saidTimes1, saidTimes2, saidTimes3, saidTimes4, nearest1, nearest2, nearest3, nearest4};
+ghost use Rattle.interpolation.specs.Grid.{inRange, pointOf, saidTimes1, saidTimes2, saidTimes3, saidTimes4, nearest1, nearest2, nearest3, nearest4};
+ghost use Rattle.interpolation.specs.Steps.{innerOf, wholeBy, startOf, startQ, Ready};
 
 // A point of the grid.
 pub struct Point {
@@ -48,8 +49,10 @@ struct Inner {
     product: f64,
 }
 
-// One point takes the nearest part, the others the floor.
+// How the parts are made a whole number: one point takes the nearest.
 const NEAREST: bool = true;
+
+// The others take the floor.
 const FLOOR: bool = false;
 
 // Three and four points take a factor of 3 at least.
@@ -66,7 +69,7 @@ fn in_range(t: f64, factor: u64, least: u64) -> bool
 // parts to be taken from; then each whole time among the parts goes back to the index.
 fn place(start: Start, factor: u64, ahead: u64) -> Point
     requires { ⌜ Ready factor start × (ahead ≤ 3) ⌝ }
-    ensures { λ r. ⌜ r ≡ pointOf factor (qOf factor start +ℤ (pos ahead -ℤ pos 1)) ⌝ }
+    ensures { λ r. ⌜ r ≡ pointOf factor (startQ factor start +ℤ (pos ahead -ℤ pos 1)) ⌝ }
 {
     let mut index = start.index - 1;
     let mut parts = start.parts + factor + ahead - 1;
@@ -75,7 +78,7 @@ fn place(start: Start, factor: u64, ahead: u64) -> Point
         index += 1;
     }
     Point {
-        index: index,
+        index,
         subindex: parts,
     }
 }
@@ -142,7 +145,11 @@ pub fn get_nearest_times_3(t: f64, factor: u64) -> Times3
         return Times3::Refused(Refusal::Argument);
     }
     let s = start_of(t, factor, FLOOR);
-    Times3::At(place(s, factor, 1), place(s, factor, 2), place(s, factor, 3))
+    Times3::At(
+        place(s, factor, 1),
+        place(s, factor, 2),
+        place(s, factor, 3),
+    )
 }
 
 // The four points from q - 1 on.

@@ -3,7 +3,7 @@ use mathlib.Core.Path.{sym, subst}
 use borrow.Author.Needs.{needs}
 use lib.Dec.{T}
 use lib.IntN.{pos}
-use lib.Ieee.{Float, fin, binary64, fits, lt, le}
+use lib.Ieee.{fin, lt, le}
 use mathlib.Core.Bool.{true, false}
 use Rattle.whole.specs.declared.Parts.{Parts}
 use Rattle.interpolation.proofs.Starts.{floor-cast, inner-is}

@@ -1,5 +1,4 @@
 -- `interpolation::made_whole` meets its contract. Assumes nothing.
-use mathlib.Core.Path.{sym}
 use borrow.Author.Needs.{needs}
 use Rattle.interpolation.proofs.made_whole.Statement.{statement}
 use Rattle.interpolation.proofs.made_whole.Tie as tie

@@ -1,0 +1,3 @@
+-- What the walks of the in-place calls share. Assumes nothing.
+pub mod Record
+pub mod Ratio

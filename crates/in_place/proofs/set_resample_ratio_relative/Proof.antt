@@ -1,0 +1,21 @@
+-- `in_place::set_resample_ratio_relative` meets its contract: the walk of proofs/Ratio.antt at `asynchro::set_resample_ratio_relative`. Assumes nothing.
+use contract.Running.{givenOf, tables, tablesOf}
+use denote.Triple.Spec.{tripleOf}
+use denote.Triple.Table.{entered, cited}
+use Rattle.asynchro.specs.Calls.{setRelative}
+use Rattle.asynchro.proofs.set_resample_ratio_relative.Symbol as by-value
+use Rattle.asynchro.proofs.set_resample_ratio_relative.Symbol.{name as #asynchro·set-resample-ratio-relative}
+use Rattle.asynchro.proofs.set_resample_ratio_relative.Met as by-value-thm
+use Rattle.in_place.proofs.Ratio.{Called, meets}
+use Rattle.in_place.proofs.set_resample_ratio_relative.Key.{name as #in-place·set-resample-ratio-relative}
+use Rattle.in_place.proofs.set_resample_ratio_relative as f
+use Rattle.in_place.proofs.set_resample_ratio_relative.Statement as stated
+use Rattle.in_place.proofs.set_resample_ratio_relative.Code as code
+
+pub set-resample-ratio-relative-spec : {M : Type 1} → stated.statement M
+unfolding code.routine tablesOf
+set-resample-ratio-relative-spec 𝓤 H 𝓜 𝓖 𝓡 =
+    entered 𝓤 H (tripleOf 𝓤 H (𝓖 .A) f.signature (f.spec 𝓤 H (𝓖 .A) (𝓜 .mem) (𝓡 .run)))
+    (tables 𝓤 H 𝓜 𝓡 code.env .C) (tables 𝓤 H 𝓜 𝓡 code.env .Λ) #in-place·set-resample-ratio-relative code.function (code.unfolded 𝓤 H 𝓜 𝓡)
+    (meets setRelative #asynchro·set-resample-ratio-relative 𝓤 H (𝓖 .A) (givenOf 𝓤 H 𝓜 𝓖) (tablesOf 𝓤 H 𝓜 (tables 𝓤 H 𝓜 𝓡 code.env))
+    (cited 𝓤 H (Called setRelative 𝓤 H (𝓖 .A)) 𝓜 𝓡 code.env #asynchro·set-resample-ratio-relative by-value.routine code.calls-asynchro·set-resample-ratio-relative (by-value-thm.met 𝓤 H 𝓜 𝓖 𝓡)))
