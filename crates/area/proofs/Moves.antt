@@ -63,7 +63,7 @@ module _ (l2 : ℕ) (input : List Float) (read needed : ℕ) (w : List Float) (f
   loaded-parts =
       let k : l2 + read + (needed - read) ≡ l2 + needed = omega arith in
       let z : take (needed - read) (replicate (needed - read) zeroF) ≡ replicate (needed - read) zeroF =
-          take-all (needed - read) (replicate (needed - read) zeroF) (rw length-replicate (omega arith)) in
+      take-all (needed - read) (replicate (needed - read) zeroF) (rw length-replicate (omega arith)) in
       rw (take-paste w l2 input read (omega arith) has, z, ← drop-drop, drop-paste w l2 input read (omega arith) has, drop-drop, k)
 
   read-long : length (take l2 w ++ take read input) ≡ l2 + read

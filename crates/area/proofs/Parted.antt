@@ -58,7 +58,7 @@ lent-from a share at w h l =
     let m : share ≡ at + (share - at) = omega arith in
     let f : length (take at (drop a w)) ≡ at = length-take-le at (drop a w) (simp length-drop (omega arith)) in
     rw (k, ← drop-drop) (sym (ap (λ (n : ℕ). drop at (take n (drop a w))) m ∙ ap (drop at) (take-add at (share - at) (drop a w))
-        ∙ drop-at (take at (drop a w)) (take (share - at) (drop at (drop a w))) at f))
+    ∙ drop-at (take at (drop a w)) (take (share - at) (drop at (drop a w))) at f))
 
 -- the area once the part is given back
 pub given-back : {A : Type 0} (g : ℕ → List A → List A) (share c : ℕ) (w ys : List A) → ys ≡ g c (take (c * share + share - c * share) (drop (c * share) w))

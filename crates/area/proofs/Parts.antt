@@ -73,7 +73,7 @@ parts-at g share (suc n) w keeps h rest c l =
     rw append-assoc (
     ⊎-elim
     (λ (e : c ≡ n). rw (e, drop-at (partsTo g share w n) (g n (partOf share n w) ++ rest) (n * share) (parts-long g share n w less k))
-        (take-at (g n (partOf share n w)) rest share j))
+    (take-at (g n (partOf share n w)) rest share j))
     (λ (e : c < n). parts-at g share n w less k (g n (partOf share n w) ++ rest) c e)
     (eq-or-lt-of-le (le-of-suc-le-suc l)))
 

@@ -3,9 +3,13 @@
 mod channel;
 mod mask;
 
-pub use channel::{load, load_channel, move_channel, move_front, put};
-pub use mask::{is_on, mask_fits};
-
+pub use channel::load;
+pub use channel::load_channel;
+pub use channel::move_channel;
+pub use channel::move_front;
+pub use channel::put;
+pub use mask::is_on;
+pub use mask::mask_fits;
 ghost use mathlib.Core.Path.{_≡_};
 ghost use Prim.Native.Nat.{_+_, _*_, _<_, _≤_};
 ghost use lib.ListN.{length, replicate};
@@ -25,14 +29,7 @@ fn move_part(work: &mut [f64], stride: usize, c: usize, mask: u64, fill: usize, 
 }
 
 // The move in each switched-on channel.
-pub fn move_all(
-    work: &mut [f64],
-    stride: usize,
-    channels: usize,
-    mask: u64,
-    fill: usize,
-    l2: usize,
-)
+pub fn move_all(work: &mut [f64], stride: usize, channels: usize, mask: u64, fill: usize, l2: usize)
     requires { ⌜ (channels * stride ≡ length (now work)) × (channels ≤ 64) ⌝ }
     requires { ⌜ fill + l2 ≤ stride ⌝ }
     ensures { λ _. ⌜ now (work .exit) ≡ movedAll mask fill l2 stride channels (now (work .entry)) ⌝ }
@@ -90,9 +87,7 @@ pub fn load_all(
     ensures { λ _. ⌜ now (work .exit) ≡ loadedAll mask l2 (now (input .entry)) share at read needed stride channels (now (work .entry)) ⌝ }
 {
     for c in 0..channels {
-        load_part(
-            work, stride, c, mask, l2, input, share, at, read, needed,
-        );
+        load_part(work, stride, c, mask, l2, input, share, at, read, needed);
     }
 }
 

@@ -4,7 +4,6 @@ ghost use lib.ListN.{length};
 ghost use Rattle.error.specs.Refusals.{saidAnswer};
 ghost use Rattle.asynchro_fast.specs.Degrees.{pointsOf, beforeOf};
 ghost use Rattle.asynchro_fast.specs.Kernels.{cubic, linear, interpOf, kernelSaid};
-
 use error::Answer;
 use error::Refusal;
 

@@ -8,7 +8,14 @@ ghost use Rattle.asynchro_fast.specs.Degrees.{pointsOf};
 ghost use Rattle.area.specs.Mask.{whereOn};
 ghost use Rattle.frames.specs.Path.{stepIndex, pathAt};
 ghost use Rattle.frames.specs.Places.{
-    within, placeFrom, placeOf, shiftOf, lastOf, isAt, allReach, Reaches,
+  within,
+  placeFrom,
+  placeOf,
+  shiftOf,
+  lastOf,
+  isAt,
+  allReach,
+  Reaches,
 };
 ghost use Rattle.frames.specs.Run.{valueAt, wroteAll, ranAll};
 

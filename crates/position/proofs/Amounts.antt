@@ -91,9 +91,11 @@ half-near k x p l h =
     let e = half-exact .1 in
     let b = subst (λ (n : ℕ). Below n (exact binary64 x)) (pow-add 2 k 1074) h in
     let r = mul-near binary64 k halfF x (half-exact .0) p l
-    (subst (λ (v : Whole). Below (2 ^ k * (2 ^ 1074 * 2 ^ 1074)) (v ⊗ exact binary64 x)) (sym e) (halve-below (2 ^ 1073) (2 ^ k) (exact binary64 x) (pow-pos 1073) b)) in
-    (r .0, halve-near (2 ^ 1073) (slack binary64 k) (exact binary64 x) (exact binary64 (halfF *f x)) (pow-pos 1073)
-    (subst (λ (v : Whole). Within (2 ^ 1074 * slack binary64 k) (2 ^ 1074 ⊙ exact binary64 (halfF *f x)) (v ⊗ exact binary64 x)) e (r .1)))
+    (subst (λ (v : Whole). Below (2 ^ k * (2 ^ 1074 * 2 ^ 1074)) (v ⊗ exact binary64 x)) (sym e) (halve-below (2 ^ 1073) (2 ^ k) (exact binary64 x) (pow-pos 1073) b)) in (
+      r .0,
+      halve-near (2 ^ 1073) (slack binary64 k) (exact binary64 x) (exact binary64 (halfF *f x)) (pow-pos 1073)
+          (subst (λ (v : Whole). Within (2 ^ 1074 * slack binary64 k) (2 ^ 1074 ⊙ exact binary64 (halfF *f x)) (v ⊗ exact binary64 x)) e (r .1)),
+    )
 
 -- ---- x - y, where v and w are what x and y are worth; and looser than by the slack
 pub sub-of : (k e : ℕ) (x y : Float) (v w : Whole) → Number binary64 x → Number binary64 y → exact binary64 x ≡ v → exact binary64 y ≡ w

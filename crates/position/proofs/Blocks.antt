@@ -48,7 +48,7 @@ taken n c w t d i x l p h k =
     record {
       number = r .0;
       inside = taken-inside (2 ^ 1074) (2 ^ 1037) v y (lit≤ tt) h (r .1);
-      near = taken-near n (tri n) (c * 2 ^ 1074) (2 ^ 1037) w (exact binary64 i) (exact binary64 t) (exact binary64 d) (exact binary64 x) y k (r .1)
+      near = taken-near n (tri n) (c * 2 ^ 1074) (2 ^ 1037) w (exact binary64 i) (exact binary64 t) (exact binary64 d) (exact binary64 x) y k (r .1);
     }
 
 -- ---- a block of no frames
@@ -83,8 +83,8 @@ ramp-is : (n h : ℕ) → tri n * (2 * h) ≡ n * (n + 1) * h
 ramp-is n h = omega (arith, ap (λ (x : ℕ). x * h) (tri-is n))
 
 module _ (shift last n c : ℕ) (t u i : Float) (a : Step t) (b : Step u) (p : Number binary64 i) (q : Below (2 ^ 1091) (exact binary64 i))
-  (some : 0 < n) (ln : n ≤ 65536) (lc : c ≤ 65536) (ls : shift ≤ 512) (ll : last ≤ 256 + c)
-  (reach : allReach shift last t ((u -f t) /f count n) i n ≡ true) where
+    (some : 0 < n) (ln : n ≤ 65536) (lc : c ≤ 65536) (ls : shift ≤ 512) (ll : last ≤ 256 + c)
+    (reach : allReach shift last t ((u -f t) /f count n) i n ≡ true) where
   abbrev inc : Float
   inc = (u -f t) /f count n
 

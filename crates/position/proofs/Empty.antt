@@ -113,7 +113,7 @@ module _ (l c : ℕ) (i t u : Float) (hl : l ≤ 256) (hc : c ≤ 65536) (n : Nu
         t-least = not-below (2 ^ 1065) (exact binary64 t) (a .pace .least);
         t-most = a .pace .most;
         u-least = not-below (2 ^ 1065) (exact binary64 u) (b .pace .least);
-        u-most = b .pace .most
+        u-most = b .pace .most;
       }
 
   -- the numerator is below 2 ^ 20; where it is at most 3*A, the chunk is at most 1300 ahead of the index

@@ -47,7 +47,7 @@ given-near s t a n p =
       doubles = block-doubles s t (n .doubles) p;
       near = subst (Off t (added s a (given (sizesOf s)))) (sym (ap (λ (r : State). r .index) (p .left)))
           (grown (2 ^ 1037) (2 ^ 1074) (a .frames) (a .blocks) (a .ramps) (a .inputs) (s .output) (s .input) (rampOf s (s .output))
-          (a .exactly) (exact binary64 (s .index)) (exact binary64 (afterBlock s .index)) (exactMove s (s .output)) (n .near) (m .near))
+          (a .exactly) (exact binary64 (s .index)) (exact binary64 (afterBlock s .index)) (exactMove s (s .output)) (n .near) (m .near));
     }
 
 block-near : (s : State) (a : Account) (frames mask : ℕ) (input output work : List Float) (r : Said State) → planned s frames mask (length input) (length output) (length work) ≡ r → Near s a

@@ -33,7 +33,7 @@ ratio-of r d h =
     record {
       number = n;
       least = subst (λ (v : Whole). AtMost v (exact binary64 r)) (least-exact .1) (le-exact binary64 leastF r (least-exact .0) n .0 a);
-      most = subst (AtMost (exact binary64 r)) (most-exact .1) (le-exact binary64 r mostF n (most-exact .0) .0 b)
+      most = subst (AtMost (exact binary64 r)) (most-exact .1) (le-exact binary64 r mostF n (most-exact .0) .0 b);
     }
 
 -- an index in use is a number below 2 ^ 17 in size
@@ -48,10 +48,12 @@ pub index-of : (i : Float) → Double i → T (isIndex i) → Number binary64 i 
 index-of i d h =
     let a = and-l (lt lowF i) (lt i highF) h in
     let b = and-r (lt lowF i) (lt i highF) h in
-    let n : Number binary64 i = (between-finite i a b, d) in
-    (n, inside (2 ^ 1091) (exact binary64 i)
-    (subst (λ (v : Whole). Less v (exact binary64 i)) (low-exact .1) (lt-exact binary64 lowF i (low-exact .0) n .0 a))
-    (subst (Less (exact binary64 i)) (high-exact .1) (lt-exact binary64 i highF n (high-exact .0) .0 b)))
+    let n : Number binary64 i = (between-finite i a b, d) in (
+      n,
+      inside (2 ^ 1091) (exact binary64 i)
+          (subst (λ (v : Whole). Less v (exact binary64 i)) (low-exact .1) (lt-exact binary64 lowF i (low-exact .0) n .0 a))
+          (subst (Less (exact binary64 i)) (high-exact .1) (lt-exact binary64 i highF n (high-exact .0) .0 b)),
+    )
   where
     inside : (b : ℕ) (v : Whole) → Less (0, b) v → Less v (b, 0) → Below b v
     inside b v h k = omega arith

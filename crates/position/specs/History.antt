@@ -26,7 +26,7 @@ pub record Doubles (s : State) : Type 0 where
 -- the record that a history starts with: an accepted construction's, or an accepted reset's of any record and working area
 pub data Start : State → Type 0 where
   constructed : (r m : Float) (degree : PolynomialDegree) (chunk channels : ℕ) (fixed : FixedAsync) (s : State)
-    → Double r → construct r m degree chunk channels fixed ≡ given s → Start s
+      → Double r → construct r m degree chunk channels fixed ≡ given s → Start s
   restarted : (s : State) (work : List Float) → Doubles s → resetOf s work .said ≡ given tt → Start (resetOf s work .state)
 
 -- a call: a ratio setting with or without ramp, a chunk setting, or a block with its frames given, its mask and its three areas

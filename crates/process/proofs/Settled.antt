@@ -34,14 +34,14 @@ outcome-back o output work = ap (λ (a : Ran). record { state = o .state; answer
 
 pub block-settled : (o p : BlockOutcome) (output output′ work work′ : List Float) → blockLeft o output work ≡ blockLeft p output′ work′ → (o ≡ p) × (output ≡ output′) × (work ≡ work′)
 block-settled o p output output′ work work′ e = (
-    sym (outcome-back o output work) ∙ ap outcomeOf e ∙ outcome-back p output′ work′,
-    ap (λ (b : Block Sizes). b .output) e,
-    ap (λ (b : Block Sizes). b .work) e,
-  )
+  sym (outcome-back o output work) ∙ ap outcomeOf e ∙ outcome-back p output′ work′,
+  ap (λ (b : Block Sizes). b .output) e,
+  ap (λ (b : Block Sizes). b .work) e,
+)
 
 -- ---- reset: the outcome and the working area
 pub reset-settled : (o p : Outcome) (work work′ : List Float) → resetLeft o work ≡ resetLeft p work′ → (o ≡ p) × (work ≡ work′)
 reset-settled o p work work′ e = (
-    outcome-settled o p (ap (λ (r : Reset). record { state = r .state; said = r .said }) e),
-    ap (λ (r : Reset). r .work) e,
-  )
+  outcome-settled o p (ap (λ (r : Reset). record { state = r .state; said = r .said }) e),
+  ap (λ (r : Reset). r .work) e,
+)

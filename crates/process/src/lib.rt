@@ -1,16 +1,33 @@
 // The block run and reset. Two passes: the first works out every refusal and the record to come
 // and writes nothing; the second writes.
-use asynchro::record::{Made, State};
-use asynchro::{Done, Outcome};
+use asynchro::Done;
+use asynchro::Outcome;
+use asynchro::record::Made;
+use asynchro::record::State;
 use error::Refusal;
 ghost use mathlib.Core.Path.{_≡_};
 ghost use mathlib.Core.Bool.{true};
 ghost use lib.ListN.{length};
 ghost use Rattle.asynchro.specs.Record.{isState, saidMade};
 ghost use Rattle.process.specs.Block.{
-    readOf, strideOf, workHolds, shareHolds, shapeHolds, incrementOf, reachHolds, indexAfter,
-    afterBlock, planned, workAfter, outputAfter, blockOf, blockLeft, restored, resetting, resetOf,
-    resetLeft,
+  readOf,
+  strideOf,
+  workHolds,
+  shareHolds,
+  shapeHolds,
+  incrementOf,
+  reachHolds,
+  indexAfter,
+  afterBlock,
+  planned,
+  workAfter,
+  outputAfter,
+  blockOf,
+  blockLeft,
+  restored,
+  resetting,
+  resetOf,
+  resetLeft,
 };
 
 // The two sizes that a block used.
@@ -158,13 +175,33 @@ fn write(
     let share_out = output.len() / channels;
     area::move_all(work, stride, channels, mask, s.fill, l2);
     area::load_all(
-        work, stride, channels, mask, l2, input, share_in, at, read, s.input,
+        work,
+        stride,
+        channels,
+        mask,
+        l2,
+        input,
+        share_in,
+        at,
+        read,
+        s.input,
     );
     let t = asynchro::record::step_now(s);
     let d = t_ratio_increment(s);
     let degree = s.degree;
     frames::run_all(
-        degree, s.input, mask, work, stride, t, d, s.index, s.output, to, output, share_out,
+        degree,
+        s.input,
+        mask,
+        work,
+        stride,
+        t,
+        d,
+        s.index,
+        s.output,
+        to,
+        output,
+        share_out,
         channels,
     );
 }

@@ -38,18 +38,18 @@ length-digits (suc k) n = ap suc (length-digits k n)
 -- 16 ^ k is a power of 2
 pub sixteens : (k : ℕ) → 16 ^ k ≡ 2 ^ (4 * k)
 sixteens zero = refl
-sixteens (suc k) = 
+sixteens (suc k) =
     let e : 4 + 4 * k ≡ 4 * suc k = omega arith in
     pow-succ' 16 k ∙ ap (λ (p : ℕ). 16 * p) (sixteens k) ∙ sym (pow-add 2 4 (4 * k)) ∙ ap (λ (p : ℕ). 2 ^ p) e
 
 -- the digit at the place j is the one of 16 ^ (k - j)
 digit-at : (k n j : ℕ) → j ≤ k → getD (digitsOf (suc k) n) j 0 ≡ glyphOf (n / 16 ^ (k - j) % 16)
 unfolding digitsOf
-digit-at k n zero h = 
+digit-at k n zero h =
     let e : k ≡ k - 0 = omega arith in
     ap (λ (p : ℕ). glyphOf (n / 16 ^ p % 16)) e
 digit-at zero n (suc j) h = absurd (omega arith)
-digit-at (suc k) n (suc j) h = 
+digit-at (suc k) n (suc j) h =
     let e : k - j ≡ suc k - suc j = omega arith in
     digit-at k n j (omega arith) ∙ ap (λ (p : ℕ). glyphOf (n / 16 ^ p % 16)) e
 

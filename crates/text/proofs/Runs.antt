@@ -75,7 +75,7 @@ module _ (b c : ℕ) (w : List ℕ) (p : 0 < b) where
 
   pub run-next : runOf b (w ++ (c ∷ [])) ≡ stepRun b (runOf b w) c
   unfolding stepDigit
-  run-next = 
+  run-next =
       rw (all-snoc b c w, numeral-snoc b 0 c w, length-snoc c w) (go (allDigits b w) (ltb (numeral b w) (2 ^ 64)) refl)
     where
       go : (s t : Bool) → ltb (numeral b w) (2 ^ 64) ≡ t

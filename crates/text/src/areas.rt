@@ -1,6 +1,9 @@
 // Areas as words: the samples' bit patterns run together, or `-` for no sample.
 use crate::bits::of_bits;
-use crate::words::{hex_step, no_digits, Parsed, Run};
+use crate::words::Parsed;
+use crate::words::Run;
+use crate::words::hex_step;
+use crate::words::no_digits;
 ghost use mathlib.Core.Path.{_≡_};
 ghost use lib.ListN.{length};
 ghost use Rattle.text.specs.Areas.{areaNext, areaKept, areaStep, areaAfter, areaDone};

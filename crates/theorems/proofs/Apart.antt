@@ -20,7 +20,6 @@ use Rattle.process.proofs.Shape.{Shaped, shaped}
 -- one record, frames given and mask; two blocks whose areas have the same lengths
 module _ (s : State) (frames mask : ℕ) (input input′ output output′ work work′ : List Float)
     (i : length input ≡ length input′) (o : length output ≡ length output′) (w : length work ≡ length work′) where
-
   -- a channel's share of the input and of the output, and its part of the working area
   abbrev pub Alike : ℕ → Type 0
   Alike c =

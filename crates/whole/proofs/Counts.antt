@@ -39,7 +39,7 @@ made-counted how next k (fin s m e) t h =
       is = refl;
       number = whole-number s n v;
       value = whole-exact s n v;
-      atMost = next-upto (m * up e) (down e) (2 ^ k) n (down-pos e) i (le-of-lt (ones-under (shared binary64 s m e (t .1)) (2 ^ k) b))
+      atMost = next-upto (m * up e) (down e) (2 ^ k) n (down-pos e) i (le-of-lt (ones-under (shared binary64 s m e (t .1)) (2 ^ k) b));
     }
 
 either : (P : ℕ → Type 0) (s : Bool) (p q : ℕ) → P p → P q → P (cond s p q)

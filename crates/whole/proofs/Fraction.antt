@@ -47,7 +47,7 @@ left-few f s (suc m) (negsuc k) t =
       j = j;
       is = mul-assoc r (2 ^ j) (2 ^ suc k) ∙ ap (λ (x : ℕ). r * x) (sym (pow-add 2 j (suc k)) ∙ ap (λ (x : ℕ). 2 ^ x) (back (low f) (suc k) (down-le f s m k t)));
       digits = lt-of-le-of-lt (mod-le (suc m * 1) (2 ^ suc k)) (rw mul-one (digits-lt f s (suc m) (negsuc k) t));
-      fine = omega arith
+      fine = omega arith;
     }
 
 beside : (s : Bool) (M g k : ℕ) → M ≡ k + g → Same (signed s g) (signed s M ⊖ signed s k)

@@ -86,7 +86,7 @@ over-tells =
       endless = lt-itself (inf false);
       a-size = λ m e t. size m e t (eqb (m * up e % down e) 0) refl;
       minus-zero = λ e t. below-whole true zero e t (no-left zero e (zero-mul (up e)));
-      no-more = λ e. refl
+      no-more = λ e. refl;
     }
   where
     size : (m : ℕ) (e : ℤ) → T (fits binary64 (fin false m e)) → (b : Bool) → eqb (m * up e % down e) 0 ≡ b
@@ -136,7 +136,7 @@ near-tells =
       endless = refl;
       a-size = λ m e t. near-is (m * up e) (down e) (down-pos e) ∙ size m e t (leb (down e) (2 * (m * up e % down e))) refl;
       minus-zero = λ e t. half-not true zero e t (rw (no-left zero e (zero-mul (up e))) (down-pos e));
-      no-more = λ e. near-is (zero * up e) (down e) (down-pos e) ∙ rw (no-left zero e (zero-mul (up e)), lt-leb (down e) 0 (down-pos e))
+      no-more = λ e. near-is (zero * up e) (down e) (down-pos e) ∙ rw (no-left zero e (zero-mul (up e)), lt-leb (down e) 0 (down-pos e));
     }
   where
     size : (m : ℕ) (e : ℤ) → T (fits binary64 (fin false m e)) → (b : Bool) → leb (down e) (2 * (m * up e % down e)) ≡ b

@@ -31,7 +31,7 @@ shared f s m e t =
       one = pow-pos (low f);
       is = mag-exact f (fin s m e) t;
       parts = div-add-mod' (m * up e) (down e);
-      left = mod-lt (m * up e) (down-pos e)
+      left = mod-lt (m * up e) (down-pos e);
     }
 
 module _ {M U a d n r : ℕ} (o : Shared M U a d n r) where

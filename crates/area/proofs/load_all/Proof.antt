@@ -23,8 +23,11 @@ load-part-requires : tie.Need-load-part-requires Inv-loop μ-loop
 load-part-requires c κs =
     let s = c .before .before .before .before .before in
     let l = c .before .before .loop in
-    omega (arith, room (l .c) (s .args .channels) (s .args .stride) (length (l .work)) (omega arith) (omega arith),
-    room (l .c) (s .args .channels) (s .args .share) (length (now (s .args .input))) (omega arith) (omega arith))
+    omega (
+      arith,
+      room (l .c) (s .args .channels) (s .args .stride) (length (l .work)) (omega arith) (omega arith),
+      room (l .c) (s .args .channels) (s .args .share) (length (now (s .args .input))) (omega arith) (omega arith),
+    )
 
 add-c : tie.Need-add-c Inv-loop μ-loop
 add-c c = search needs
@@ -36,10 +39,11 @@ loop-again : tie.Need-loop-again Inv-loop μ-loop
 loop-again c =
     let s = c .before .before .before .before .before .before .before .before in
     let l = c .before .before .before .before .before .loop in
-    let f = c .before .before .load-part in
-    (omega arith,
-    parted-next _ (s .args .stride) (now (s .args .work)) (l .work) _ (l .c) (l .inv .1)
-    (room (l .c) (s .args .channels) (s .args .stride) _ (omega arith) (omega arith)) (f .kept .0) (f .ensures))
+    let f = c .before .before .load-part in (
+      omega arith,
+      parted-next _ (s .args .stride) (now (s .args .work)) (l .work) _ (l .c) (l .inv .1)
+          (room (l .c) (s .args .channels) (s .args .stride) _ (omega arith) (omega arith)) (f .kept .0) (f .ensures),
+    )
 
 same-length : tie.Need-same-length Inv-loop μ-loop
 same-length c = c .before .loop .inv .1 .long

@@ -35,10 +35,11 @@ loop-again : tie.Need-loop-again Inv-loop μ-loop
 loop-again c =
     let s = c .before .before .before .before .before .before .before in
     let l = c .before .before .before .before .before .loop in
-    let f = c .before .before .move-part in
-    (omega arith,
-    parted-next _ (s .args .stride) (now (s .args .work)) (l .work) _ (l .c) (l .inv .1)
-    (room (l .c) (s .args .channels) (s .args .stride) _ (omega arith) (omega arith)) (f .kept .0) (f .ensures))
+    let f = c .before .before .move-part in (
+      omega arith,
+      parted-next _ (s .args .stride) (now (s .args .work)) (l .work) _ (l .c) (l .inv .1)
+          (room (l .c) (s .args .channels) (s .args .stride) _ (omega arith) (omega arith)) (f .kept .0) (f .ensures),
+    )
 
 same-length : tie.Need-same-length Inv-loop μ-loop
 same-length c = c .before .loop .inv .1 .long

@@ -1,136 +1,100 @@
 use borrow.Author.Needs.{needs}
 use Rattle.error.proofs.values.Statement.{statement}
 use Rattle.error.proofs.values.Tie as tie
-use Rattle.error.proofs.values.Reads as reads
-use Rattle.error.proofs.values.Lts as lts
-use Rattle.error.proofs.none.Reads as none-reads
-use Rattle.error.proofs.one.Reads as one-reads
 
--- src/lib.rt:76:31
 enum-known-r : tie.Need-enum-known-r
 enum-known-r c = search needs
 
--- src/lib.rt:76:37
 one-requires : tie.Need-one-requires
 one-requires c κs = search needs
 
--- src/lib.rt:77:39
 enum-known-r-2 : tie.Need-enum-known-r-2
 enum-known-r-2 c = search needs
 
--- src/lib.rt:77:45
 one-requires-2 : tie.Need-one-requires-2
 one-requires-2 c κs = search needs
 
--- src/lib.rt:78:35
 enum-known-r-3 : tie.Need-enum-known-r-3
 enum-known-r-3 c = search needs
 
--- src/lib.rt:82:34
 enum-known-r-4 : tie.Need-enum-known-r-4
 enum-known-r-4 c = search needs
 
--- src/lib.rt:82:40
 one-requires-3 : tie.Need-one-requires-3
 one-requires-3 c κs = search needs
 
--- src/lib.rt:83:38
 enum-told : tie.Need-enum-told
 enum-told c = search needs
 
--- src/lib.rt:83:38
 none-requires : tie.Need-none-requires
 none-requires c κs = search needs
 
--- src/lib.rt:84:34
 enum-told-2 : tie.Need-enum-told-2
 enum-told-2 c = search needs
 
--- src/lib.rt:84:34
 none-requires-2 : tie.Need-none-requires-2
 none-requires-2 c κs = search needs
 
--- src/lib.rt:85:30
 enum-told-3 : tie.Need-enum-told-3
 enum-told-3 c = search needs
 
--- src/lib.rt:85:30
 none-requires-3 : tie.Need-none-requires-3
 none-requires-3 c κs = search needs
 
--- src/lib.rt:86:33
 enum-told-4 : tie.Need-enum-told-4
 enum-told-4 c = search needs
 
--- src/lib.rt:86:33
 none-requires-4 : tie.Need-none-requires-4
 none-requires-4 c κs = search needs
 
--- src/lib.rt:87:27
 enum-told-5 : tie.Need-enum-told-5
 enum-told-5 c = search needs
 
--- src/lib.rt:87:27
 none-requires-5 : tie.Need-none-requires-5
 none-requires-5 c κs = search needs
 
--- src/lib.rt:88:33
 enum-told-6 : tie.Need-enum-told-6
 enum-told-6 c = search needs
 
--- src/lib.rt:88:33
 none-requires-6 : tie.Need-none-requires-6
 none-requires-6 c κs = search needs
 
--- src/lib.rt:89:30
 enum-told-7 : tie.Need-enum-told-7
 enum-told-7 c = search needs
 
--- src/lib.rt:89:30
 none-requires-7 : tie.Need-none-requires-7
 none-requires-7 c κs = search needs
 
--- src/lib.rt:72:1
 returns : tie.Need-returns
 returns c = rw (c .before .before .r .given .1) (c .one .ensures)
 
--- src/lib.rt:72:1
 returns-2 : tie.Need-returns-2
 returns-2 c = rw (c .before .before .r2 .given .1) (c .one2 .ensures)
 
--- src/lib.rt:72:1
 returns-3 : tie.Need-returns-3
 returns-3 c = rw (c .before .r3 .given .1)
 
--- src/lib.rt:72:1
 returns-4 : tie.Need-returns-4
 returns-4 c = rw (c .before .before .r4 .given .1) (c .one3 .ensures)
 
--- src/lib.rt:72:1
 returns-5 : tie.Need-returns-5
 returns-5 c = rw (c .before .enum-told .given .1) (c .none .ensures)
 
--- src/lib.rt:72:1
 returns-6 : tie.Need-returns-6
 returns-6 c = rw (c .before .enum-told2 .given .1) (c .none2 .ensures)
 
--- src/lib.rt:72:1
 returns-7 : tie.Need-returns-7
 returns-7 c = rw (c .before .enum-told3 .given .1) (c .none3 .ensures)
 
--- src/lib.rt:72:1
 returns-8 : tie.Need-returns-8
 returns-8 c = rw (c .before .enum-told4 .given .1) (c .none4 .ensures)
 
--- src/lib.rt:72:1
 returns-9 : tie.Need-returns-9
 returns-9 c = rw (c .before .enum-told5 .given .1) (c .none5 .ensures)
 
--- src/lib.rt:72:1
 returns-10 : tie.Need-returns-10
 returns-10 c = rw (c .before .enum-told6 .given .1) (c .none6 .ensures)
 
--- src/lib.rt:72:1
 returns-11 : tie.Need-returns-11
 returns-11 c = rw (c .before .enum-told7 .given .1) (c .none7 .ensures)
 

@@ -47,10 +47,8 @@ use Rattle.asynchro.proofs.Outcome.Laws as O′
 use Rattle.asynchro.proofs.Done as N
 use Rattle.process.proofs.reset as g
 use Rattle.process.proofs.reset.Symbol as by-value
-use Rattle.process.proofs.reset.Symbol.{name as #process·reset}
 use Rattle.process.proofs.reset.Met as by-value-thm
 use Rattle.in_place.proofs.Record.{sval, nval, IsState, IsDone, state-is, answer-is, state-typed, outcome-typed, done-typed, state-makes, done-makes, takes, puts}
-use Rattle.in_place.proofs.reset.Key.{name as #in-place·reset}
 use Rattle.in_place.proofs.reset as f
 use Rattle.in_place.proofs.reset.Statement as stated
 use Rattle.in_place.proofs.reset.Code as code

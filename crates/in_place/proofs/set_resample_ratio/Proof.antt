@@ -4,10 +4,8 @@ use denote.Triple.Spec.{tripleOf}
 use denote.Triple.Table.{entered, cited}
 use Rattle.asynchro.specs.Calls.{setRatio}
 use Rattle.asynchro.proofs.set_resample_ratio.Symbol as by-value
-use Rattle.asynchro.proofs.set_resample_ratio.Symbol.{name as #asynchro·set-resample-ratio}
 use Rattle.asynchro.proofs.set_resample_ratio.Met as by-value-thm
 use Rattle.in_place.proofs.Ratio.{Called, meets}
-use Rattle.in_place.proofs.set_resample_ratio.Key.{name as #in-place·set-resample-ratio}
 use Rattle.in_place.proofs.set_resample_ratio as f
 use Rattle.in_place.proofs.set_resample_ratio.Statement as stated
 use Rattle.in_place.proofs.set_resample_ratio.Code as code

@@ -4,10 +4,8 @@ use denote.Triple.Spec.{tripleOf}
 use denote.Triple.Table.{entered, cited}
 use Rattle.asynchro.specs.Calls.{setRelative}
 use Rattle.asynchro.proofs.set_resample_ratio_relative.Symbol as by-value
-use Rattle.asynchro.proofs.set_resample_ratio_relative.Symbol.{name as #asynchro·set-resample-ratio-relative}
 use Rattle.asynchro.proofs.set_resample_ratio_relative.Met as by-value-thm
 use Rattle.in_place.proofs.Ratio.{Called, meets}
-use Rattle.in_place.proofs.set_resample_ratio_relative.Key.{name as #in-place·set-resample-ratio-relative}
 use Rattle.in_place.proofs.set_resample_ratio_relative as f
 use Rattle.in_place.proofs.set_resample_ratio_relative.Statement as stated
 use Rattle.in_place.proofs.set_resample_ratio_relative.Code as code
