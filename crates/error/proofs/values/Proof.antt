@@ -1,3 +1,4 @@
+-- `error::values` meets its contract: each arm gives the floats of its refusal. Assumes nothing.
 use borrow.Author.Needs.{needs}
 use Rattle.error.proofs.values.Statement.{statement}
 use Rattle.error.proofs.values.Tie as tie
