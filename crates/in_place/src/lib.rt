@@ -12,27 +12,27 @@ ghost use Rattle.process.specs.Block.{blockOf, blockLeft, resetOf, resetLeft};
 pub fn set_resample_ratio(s: &mut State, r: f64, ramp: bool) -> Done
     ensures { λ a. ⌜ resultOf (record { state = now (s .exit); answer = a }) ≡ setRatio (now (s .entry)) r ramp ⌝ }
 {
-    let o = asynchro::set_resample_ratio(*s, r, ramp);
-    *s = o.state;
-    o.answer
+    let set = asynchro::set_resample_ratio(*s, r, ramp);
+    *s = set.state;
+    set.answer
 }
 
 // A relative ratio setting.
 pub fn set_resample_ratio_relative(s: &mut State, rel: f64, ramp: bool) -> Done
     ensures { λ a. ⌜ resultOf (record { state = now (s .exit); answer = a }) ≡ setRelative (now (s .entry)) rel ramp ⌝ }
 {
-    let o = asynchro::set_resample_ratio_relative(*s, rel, ramp);
-    *s = o.state;
-    o.answer
+    let scaled = asynchro::set_resample_ratio_relative(*s, rel, ramp);
+    *s = scaled.state;
+    scaled.answer
 }
 
 // A chunk setting.
 pub fn set_chunk_size(s: &mut State, n: usize) -> Done
     ensures { λ a. ⌜ resultOf (record { state = now (s .exit); answer = a }) ≡ setChunk (now (s .entry)) n ⌝ }
 {
-    let o = asynchro::set_chunk_size(*s, n);
-    *s = o.state;
-    o.answer
+    let chunked = asynchro::set_chunk_size(*s, n);
+    *s = chunked.state;
+    chunked.answer
 }
 
 // The block run.
@@ -46,16 +46,16 @@ pub fn process_into_buffer(
 ) -> Ran
     ensures { λ a. ⌜ blockLeft (record { state = now (s .exit); answer = a }) (now (output .exit)) (now (work .exit)) ≡ blockOf (now (s .entry)) frames mask (now (input .entry)) (now (output .entry)) (now (work .entry)) ⌝ }
 {
-    let o = process::process_into_buffer(*s, frames, mask, input, output, work);
-    *s = o.state;
-    o.answer
+    let ran = process::process_into_buffer(*s, frames, mask, input, output, work);
+    *s = ran.state;
+    ran.answer
 }
 
 // Reset.
 pub fn reset(s: &mut State, work: &mut [f64]) -> Done
     ensures { λ a. ⌜ resetLeft (record { state = now (s .exit); answer = a }) (now (work .exit)) ≡ resetOf (now (s .entry)) (now (work .entry)) ⌝ }
 {
-    let o = process::reset(*s, work);
-    *s = o.state;
-    o.answer
+    let cleared = process::reset(*s, work);
+    *s = cleared.state;
+    cleared.answer
 }

@@ -6,6 +6,7 @@ use Rattle.asynchro.specs.Calls.{setRelative}
 use Rattle.asynchro.proofs.set_resample_ratio_relative.Symbol as by-value
 use Rattle.asynchro.proofs.set_resample_ratio_relative.Met as by-value-thm
 use Rattle.in_place.proofs.Ratio.{Called, meets}
+use Rattle.in_place.proofs.set_resample_ratio_relative.Key as key
 use Rattle.in_place.proofs.set_resample_ratio_relative as f
 use Rattle.in_place.proofs.set_resample_ratio_relative.Statement as stated
 use Rattle.in_place.proofs.set_resample_ratio_relative.Code as code
@@ -14,6 +15,6 @@ pub set-resample-ratio-relative-spec : {M : Type 1} → stated.statement M
 unfolding code.routine tablesOf
 set-resample-ratio-relative-spec 𝓤 H 𝓜 𝓖 𝓡 =
     entered 𝓤 H (tripleOf 𝓤 H (𝓖 .A) f.signature (f.spec 𝓤 H (𝓖 .A) (𝓜 .mem) (𝓡 .run)))
-    (tables 𝓤 H 𝓜 𝓡 code.env .C) (tables 𝓤 H 𝓜 𝓡 code.env .Λ) #in-place·set-resample-ratio-relative code.function (code.unfolded 𝓤 H 𝓜 𝓡)
-    (meets setRelative #asynchro·set-resample-ratio-relative 𝓤 H (𝓖 .A) (givenOf 𝓤 H 𝓜 𝓖) (tablesOf 𝓤 H 𝓜 (tables 𝓤 H 𝓜 𝓡 code.env))
-    (cited 𝓤 H (Called setRelative 𝓤 H (𝓖 .A)) 𝓜 𝓡 code.env #asynchro·set-resample-ratio-relative by-value.routine code.calls-asynchro·set-resample-ratio-relative (by-value-thm.met 𝓤 H 𝓜 𝓖 𝓡)))
+    (tables 𝓤 H 𝓜 𝓡 code.env .C) (tables 𝓤 H 𝓜 𝓡 code.env .Λ) key.name code.function (code.unfolded 𝓤 H 𝓜 𝓡)
+    (meets setRelative by-value.name 𝓤 H (𝓖 .A) (givenOf 𝓤 H 𝓜 𝓖) (tablesOf 𝓤 H 𝓜 (tables 𝓤 H 𝓜 𝓡 code.env))
+    (cited 𝓤 H (Called setRelative 𝓤 H (𝓖 .A)) 𝓜 𝓡 code.env by-value.name by-value.routine code.calls-asynchro·set-resample-ratio-relative (by-value-thm.met 𝓤 H 𝓜 𝓖 𝓡)))
