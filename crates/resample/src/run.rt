@@ -1,0 +1,371 @@
+// The pass: block after block until the input is over.
+use crate::blocks::{read_block, write_block, Reading};
+use crate::counts::{bytes_of, plus, samples_of};
+use crate::files::{open_files, Files};
+use crate::log::{put_entry, Entry};
+use crate::options::Options;
+use crate::say::{say, say_number, say_refused, say_start};
+use crate::setup::{
+    all_changes, area_length, increment_of, is_ready, made_told, mask_of, work_length,
+};
+use asynchro::record::{Made, State};
+use error::Refusal;
+use process::{BlockOutcome, Ran};
+
+// The blocks so far, and all frames in and out. `going` is false once the run is to stop, and `good`
+// where that is before the input's end.
+struct Totals {
+    blocks: u64,
+    input: u64,
+    output: u64,
+    going: bool,
+    good: bool,
+}
+
+// What is kept from block to block.
+struct Run {
+    state: State,
+    totals: Totals,
+}
+
+fn say_frames(t: Totals) {
+    say_number(t.blocks);
+    say(b" blocks, ");
+    say_number(t.input);
+    say(b" frames in, ");
+    say_number(t.output);
+    say(b" frames out\n");
+}
+
+fn stop(t: Totals) -> Totals {
+    Totals {
+        blocks: t.blocks,
+        input: t.input,
+        output: t.output,
+        going: false,
+        good: false,
+    }
+}
+
+fn over(t: Totals) -> Totals {
+    Totals {
+        blocks: t.blocks,
+        input: t.input,
+        output: t.output,
+        going: false,
+        good: true,
+    }
+}
+
+// A refusal stops the run. The frames written before it stand.
+fn refused(t: Totals, r: Refusal) -> Totals {
+    say_start();
+    say(b"block ");
+    say_number(t.blocks);
+    say(b": ");
+    say_refused(r);
+    stop(t)
+}
+
+// The frames of the blocks before were written; of this one some may have been.
+fn half_written(t: Totals) -> Totals {
+    os::fail(b"resample: writing the output");
+    say_start();
+    say(b"of block ");
+    say_number(t.blocks);
+    say(b" a part may have been written, behind the frames out that are told below\n");
+    stop(t)
+}
+
+fn too_large(t: Totals) -> Totals {
+    say_start();
+    say(b"the next block has more than 131072 samples: lower --chunk or --channels\n");
+    stop(t)
+}
+
+fn not_read(t: Totals) -> Totals {
+    os::fail(b"resample: reading the input");
+    stop(t)
+}
+
+fn not_logged(t: Totals) -> Totals {
+    os::fail(b"resample: writing the log");
+    stop(t)
+}
+
+fn frames_in(samples: usize, channels: usize) -> usize {
+    if channels == 0 {
+        return 0;
+    }
+    samples / channels
+}
+
+// The bytes behind the last whole frame.
+fn left_over(samples: usize, rest: usize, channels: usize) -> usize {
+    if channels == 0 {
+        return 0;
+    }
+    if channels > 16 {
+        return 0;
+    }
+    if rest > 7 {
+        return 0;
+    }
+    8 * (samples % channels) + rest
+}
+
+// Says what is odd about the input's end.
+fn tell_end(left: usize, frames: usize, needed: usize) {
+    if left > 0 {
+        say_start();
+        say(b"the input ends within a frame: its last ");
+        say_number(left as u64);
+        say(b" bytes are no whole frame and are not used\n");
+    }
+    if (frames > 0) & (frames < needed) {
+        say_start();
+        say(b"the last block has ");
+        say_number(frames as u64);
+        say(b" of the ");
+        say_number(needed as u64);
+        say(b" frames that it needs: zeros follow them\n");
+    }
+}
+
+// The whole frames that were read.
+fn frames_told(r: Reading, channels: usize, needed: usize) -> usize {
+    let frames = frames_in(r.samples, channels);
+    tell_end(left_over(r.samples, r.rest, channels), frames, needed);
+    frames
+}
+
+// One block on the areas, whose parts have just the frames that the record asks for.
+fn process_block(
+    s: State,
+    frames: usize,
+    mask: u64,
+    input: &[f64],
+    output: &mut [f64],
+    work: &mut [f64],
+) -> BlockOutcome {
+    let a = samples_of(input, area_length(s.channels, s.input));
+    let b = samples_of(output, area_length(s.channels, s.output));
+    let n = samples_of(work, work_length(s));
+    process::process_into_buffer(
+        s,
+        frames,
+        mask,
+        &input[..a],
+        &mut output[..b],
+        &mut work[..n],
+    )
+}
+
+// Writes the line of a block.
+fn write_entry(fd: i32, e: Entry) -> bool {
+    let mut line = [0u8; 256];
+    let n = put_entry(&mut line, e);
+    let k = bytes_of(&line, n);
+    io::write_all(fd, &line[..k])
+}
+
+// Logs a block that was written. s is the record before it, and t has it.
+fn logged(t: Totals, s: State, block: u64, index: f64, files: Files) -> Totals {
+    let e = Entry {
+        block,
+        input: s.input as u64,
+        output: s.output as u64,
+        step: asynchro::record::step_now(s),
+        increment: increment_of(s),
+        index,
+        frames: t.output,
+        blocks: t.blocks,
+    };
+    if !write_entry(files.log, e) {
+        return not_logged(t);
+    }
+    if files.log_file & (t.blocks % 1024 == 0) {
+        say_start();
+        say_frames(t);
+    }
+    t
+}
+
+fn added(t: Totals, frames: usize, output: usize, ended: bool) -> Totals {
+    Totals {
+        blocks: plus(t.blocks, 1),
+        input: plus(t.input, frames as u64),
+        output: plus(t.output, output as u64),
+        going: !ended,
+        good: true,
+    }
+}
+
+// An accepted block: its output is written, then its line.
+fn finished(
+    t: Totals,
+    s: State,
+    index: f64,
+    frames: usize,
+    ended: bool,
+    files: Files,
+    output: &[f64],
+) -> Totals {
+    if !write_block(files.output, output, s.channels, s.output) {
+        return half_written(t);
+    }
+    let next = added(t, frames, s.output, ended);
+    logged(next, s, t.blocks, index, files)
+}
+
+// What a block's answer leaves.
+fn answered(
+    t: Totals,
+    s: State,
+    outcome: BlockOutcome,
+    frames: usize,
+    ended: bool,
+    files: Files,
+    output: &[f64],
+) -> Run {
+    let state = outcome.state;
+    let answer = outcome.answer;
+    match answer {
+        Ran::Refused(e) => {
+            let totals = refused(t, e);
+            Run { state, totals }
+        }
+        Ran::Used(_) => {
+            let totals = finished(t, s, state.index, frames, ended, files, output);
+            Run { state, totals }
+        }
+    }
+}
+
+fn stopped(state: State, totals: Totals) -> Run {
+    Run { state, totals }
+}
+
+// One block of the record s, which has the changes before it.
+fn block(
+    t: Totals,
+    s: State,
+    mask: u64,
+    files: Files,
+    input: &mut [f64],
+    output: &mut [f64],
+    work: &mut [f64],
+) -> Run {
+    let r = read_block(files.input, input, s.channels, s.input);
+    if r.failed {
+        return stopped(s, not_read(t));
+    }
+    let frames = frames_told(r, s.channels, s.input);
+    if r.ended & (frames == 0) {
+        return stopped(s, over(t));
+    }
+    let outcome = process_block(s, frames, mask, input, output, work);
+    answered(t, s, outcome, frames, r.ended, files, output)
+}
+
+fn turn(
+    run: Run,
+    mask: u64,
+    count: usize,
+    files: Files,
+    changes: &[u64],
+    input: &mut [f64],
+    output: &mut [f64],
+    work: &mut [f64],
+) -> Run {
+    let before = run.state;
+    let t = run.totals;
+    let c = all_changes(before, count, t.blocks, changes);
+    let s = c.state;
+    if !c.good {
+        return stopped(s, stop(t));
+    }
+    if area_length(s.channels, s.output) > output.len() {
+        return stopped(s, too_large(t));
+    }
+    block(t, s, mask, files, input, output, work)
+}
+
+fn is_going(run: Run) -> bool {
+    let t = run.totals;
+    t.going
+}
+
+// Nothing says that the input ends, so the turns are counted down from a number that no run uses up.
+fn turns(
+    state: State,
+    mask: u64,
+    count: usize,
+    files: Files,
+    changes: &[u64],
+    input: &mut [f64],
+    output: &mut [f64],
+    work: &mut [f64],
+) -> Totals {
+    let totals = none_yet();
+    let mut run = Run { state, totals };
+    let mut left = u64::MAX;
+    while left > 0 && is_going(run) {
+        run = turn(run, mask, count, files, changes, input, output, work);
+        left -= 1;
+    }
+    run.totals
+}
+
+fn none_yet() -> Totals {
+    Totals {
+        blocks: 0,
+        input: 0,
+        output: 0,
+        going: true,
+        good: true,
+    }
+}
+
+// How the run ended. The output is closed where it is a file.
+fn tell_done(t: Totals, output: i32) {
+    if output > 2 {
+        if libc::close(output) < 0 {
+            os::fail(b"resample: closing the output");
+        }
+    }
+    if t.good & (t.blocks == 0) {
+        say_start();
+        say(b"the input has no whole frame, so there is no output\n");
+    }
+    say_start();
+    if t.good {
+        say(b"done: ");
+    } else {
+        say(b"stopped before the end of the input: ");
+    }
+    say_frames(t);
+}
+
+// The pass that the words ask for. Nothing is opened before the record stands.
+pub fn run_pass(
+    o: Options,
+    changes: &[u64],
+    input: &mut [f64],
+    output: &mut [f64],
+    work: &mut [f64],
+) {
+    let Made::Ready(state) = made_told(o) else {
+        return;
+    };
+    let mask = mask_of(o);
+    if !is_ready(state, work_length(state), mask, work.len()) {
+        return;
+    }
+    let files = open_files(o);
+    if !files.good {
+        return;
+    }
+    let t = turns(state, mask, o.changes, files, changes, input, output, work);
+    tell_done(t, files.output);
+}
