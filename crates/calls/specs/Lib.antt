@@ -1,0 +1,2 @@
+-- The call script. Definitions only.
+pub mod Within
