@@ -27,7 +27,7 @@ use said::put_said;
 use words::Command;
 
 // What is kept from line to line. `going` is false once the input is over or a write has failed.
-struct Session {
+struct Served {
     kept: Kept,
     input: Input,
     going: bool,
@@ -103,11 +103,11 @@ fn answered(
     input: &[f64],
     output: &mut [f64],
     work: &mut [f64],
-) -> Session {
+) -> Served {
     let then = line.input;
     let done = run(command_in(line), kept, values, input, output, work);
     let left = done.kept;
-    Session {
+    Served {
         kept: left,
         input: then,
         going: written(done, output, work, out),
@@ -115,8 +115,8 @@ fn answered(
 }
 
 // The input is over: there is no answer.
-fn ended(kept: Kept, input: Input) -> Session {
-    Session {
+fn ended(kept: Kept, input: Input) -> Served {
+    Served {
         kept,
         input,
         going: false,
@@ -124,14 +124,14 @@ fn ended(kept: Kept, input: Input) -> Session {
 }
 
 fn turn(
-    s: Session,
+    s: Served,
     buf: &mut [u8],
     out: &mut [u8],
     values: &mut [u64],
     input: &mut [f64],
     output: &mut [f64],
     work: &mut [f64],
-) -> Session {
+) -> Served {
     let kept = s.kept;
     let before = s.input;
     let line = read_line(before, buf, values, input, output);
@@ -152,7 +152,7 @@ fn serve(
 ) {
     let kept = nothing();
     let first = start();
-    let mut s = Session {
+    let mut s = Served {
         kept,
         input: first,
         going: true,

@@ -119,7 +119,11 @@ fn no_word() -> Word {
     }
 }
 
+// A name that was too long stays so.
 fn name_step(name: u64, byte: u8) -> u64 {
+    if name == 0 {
+        return 0;
+    }
     if name < 0x100_0000_0000_0000 {
         return name * 256 + byte as u64;
     }

@@ -1,9 +1,9 @@
 -- Digits and the bytes that show them: a digit is read back from its byte, and a number below 2 ^ 64 from its 16 hex digits. Assumes nothing.
-use mathlib.Core.Bool.{Bool, true, false, _&&_}
+use mathlib.Core.Bool.{Bool, true, false}
 use mathlib.Core.List.{List, [], _∷_, _++_}
 use mathlib.Core.Path.{_≡_, refl, sym, ap, _∙_}
 use Prim.Native.Nat.{ℕ, zero, suc, _+_, _-_, _*_, _/_, _%_, _^_, _<_, _≤_}
-use native.Mathlib.Nat.{mod-lt, mod-one, pow-succ', mul-assoc, add-mul, add-assoc, mul-comm}
+use native.Mathlib.Nat.{mod-lt, mod-one, pow-succ', mul-assoc, add-mul, add-assoc}
 use native.Mathlib.Numerals.{add-one}
 use native.Mathlib.Omega.{arith}
 use borrow.Author.Tests.{lt-ltb, le-ltb, ltb-true, ltb-false}
@@ -42,6 +42,9 @@ sixteens (suc k) =
     let e : 4 + 4 * k ≡ 4 * suc k = omega arith in
     pow-succ' 16 k ∙ ap (λ (p : ℕ). 16 * p) (sixteens k) ∙ sym (pow-add 2 4 (4 * k)) ∙ ap (λ (p : ℕ). 2 ^ p) e
 
+pub positive : (k : ℕ) → 0 < 16 ^ k
+positive k = rw (sixteens k) (pow-pos (4 * k))
+
 -- the digit at the place j is the one of 16 ^ (k - j)
 digit-at : (k n j : ℕ) → j ≤ k → getD (digitsOf (suc k) n) j 0 ≡ glyphOf (n / 16 ^ (k - j) % 16)
 unfolding digitsOf
@@ -60,21 +63,24 @@ hex-digit-at n j h =
     digit-at 15 n j (omega arith) ∙ ap (λ (p : ℕ). glyphOf (n / p % 16)) (sixteens (15 - j) ∙ ap (λ (p : ℕ). 2 ^ p) e)
 
 -- ---- the number of a row of digits
+-- the digit of 16 ^ k joins what stands behind it
+pub joined : (v n k : ℕ) → (v * 16 + n / 16 ^ k % 16) * 16 ^ k + n % 16 ^ k ≡ v * 16 ^ suc k + n % 16 ^ suc k
+joined v n k =
+    let d = n / 16 ^ k % 16 in
+    let p = 16 ^ k in
+    ap (λ (x : ℕ). x + n % p) (add-mul (v * 16) d p ∙ ap (λ (x : ℕ). x + d * p) (mul-assoc v 16 p))
+    ∙ add-assoc (v * (16 * p)) (d * p) (n % p)
+    ∙ ap (λ (x : ℕ). v * (16 * p) + x) (sym (mod-mul n (lit< tt) (positive k)))
+    ∙ ap (λ (q : ℕ). v * q + n % q) (sym (pow-succ' 16 k))
+
 pub numeral-digits : (k n v : ℕ) → numeralFrom 16 v (digitsOf k n) ≡ v * 16 ^ k + n % 16 ^ k
 unfolding digitsOf numeralFrom
 numeral-digits zero n v = rw mod-one (omega arith)
 numeral-digits (suc k) n v =
     let d = n / 16 ^ k % 16 in
-    let p = 16 ^ k in
-    ap (λ (x : ℕ). numeralFrom 16 (v * 16 + x) (digitsOf k n)) (glyph-back d (mod-lt (n / p) (lit< tt)))
+    ap (λ (x : ℕ). numeralFrom 16 (v * 16 + x) (digitsOf k n)) (glyph-back d (mod-lt (n / 16 ^ k) (lit< tt)))
     ∙ numeral-digits k n (v * 16 + d)
-    ∙ ap (λ (x : ℕ). x + n % p) (add-mul (v * 16) d p ∙ ap (λ (x : ℕ). x + d * p) (mul-assoc v 16 p))
-    ∙ add-assoc (v * (16 * p)) (d * p) (n % p)
-    ∙ ap (λ (x : ℕ). v * (16 * p) + x) (sym (mod-mul n (lit< tt) (pow-pos-16 k)))
-    ∙ ap (λ (q : ℕ). v * q + n % q) (sym (pow-succ' 16 k))
-  where
-    pow-pos-16 : (k : ℕ) → 0 < 16 ^ k
-    pow-pos-16 k = rw (sixteens k) (pow-pos (4 * k))
+    ∙ joined v n k
 
 pub numeral-snoc : (b v c : ℕ) (w : List ℕ) → numeralFrom b v (w ++ (c ∷ [])) ≡ numeralFrom b v w * b + digitOf c
 unfolding numeralFrom

@@ -1,4 +1,4 @@
--- Areas read byte by byte: what a step is, and the area that was put is read back. Assumes nothing.
+-- Areas read byte by byte: what the code's cases say of a step. Assumes nothing.
 use mathlib.Core.List.{List}
 use mathlib.Core.Path.{_≡_, ap, _∙_}
 use Prim.Native.Nat.{ℕ}

@@ -4,3 +4,4 @@ pub mod Glyphs
 pub mod Runs
 pub mod Held
 pub mod Signs
+pub mod ReadBack

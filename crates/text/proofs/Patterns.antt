@@ -3,7 +3,7 @@ use mathlib.Core.Bool.{Bool, true, false, not}
 use mathlib.Core.Path.{_≡_, refl, sym, ap, _∙_, subst}
 use Prim.Native.Nat.{ℕ, _*_, _%_, _<_, _≤_}
 use borrow.Author.Tests.{lt-ltb, le-ltb}
-use lib.Dec.{T, ltb}
+use lib.Dec.{T}
 use lib.Ieee.{Float, nan, inf, fin, binary64, isNan, ne, div, toBits, ofBits, nanBits, top, hid, ones}
 use lib.Ieee.Bits.{nanBits-is, nanBits-above}
 use lib.Ieee.Compare.{differs-from-itself, nan-differs}
@@ -14,7 +14,7 @@ unfolding toBits
 nan-told x h = ap (toBits binary64) (sym (differs-from-itself x (subst T (sym h) tt)))
 
 -- the two truth values differ
-apart : true ≡ false → ⊥
+pub apart : true ≡ false → ⊥
 apart e = subst T e tt
 
 pub no-nan : (x : Float) → ne x x ≡ false → T (not (isNan x))

@@ -6,7 +6,7 @@ use Prim.Native.Nat.{ℕ, zero, suc, _+_, _-_, _*_, _/_, _%_, _^_, min, _<_, _�
 use native.Mathlib.Nat.{le-div-iff-mul-le, div-lt-iff-lt-mul, mul-le-mul-left, mul-le-mul-right, le-trans, le-of-eq, le-min, min-le-left, min-eq-left, min-eq-right, mod-lt, mod-eq-of-lt, pow-zero, pow-succ', mul-one, mul-assoc, add-mul, lt-of-lt-of-le, not-le-of-lt}
 use native.Mathlib.Numerals.{add-one}
 use native.Mathlib.Omega.{arith}
-use borrow.Author.Tests.{lt-ltb, le-ltb, ltb-true, ltb-false, eq-eqb, ne-eqb, eqb-true, eqb-false}
+use borrow.Author.Tests.{lt-ltb, le-ltb, ltb-true, ltb-false, ne-eqb}
 use lib.Dec.{T, eqb, ltb, lit<, lit≤}
 use lib.ListN.{length, getD, take, length-append}
 use lib.Seq.{take-suc, take-length}
@@ -14,7 +14,6 @@ use Rattle.text.specs.Digits.{digitOf, digitsOf, hexDigits, numeralFrom}
 use Rattle.text.specs.Words.{numeral, allDigits, decimalOf, hexOf, runOf, noDigits, stepDigit, stepRun, decimalDone, hexDone}
 use Rattle.text.specs.declared.words.Run.{Run}
 use Rattle.text.specs.declared.words.Run.the-variants as run
-use Rattle.text.specs.declared.words.Parsed.{Parsed}
 use Rattle.text.specs.declared.words.Parsed.the-variants as parsed
 use Rattle.text.proofs.Glyphs.{glyph-back, length-digits, numeral-digits, numeral-snoc}
 

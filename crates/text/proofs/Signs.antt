@@ -1,7 +1,7 @@
 -- The size of a signed number of 64 bits, by the two tests that the code makes. Assumes nothing.
-use mathlib.Core.Bool.{Bool, true, false}
-use mathlib.Core.Path.{_≡_, refl, sym, ap, _∙_, subst}
-use Prim.Native.Nat.{ℕ, suc, _+_, _^_, _<_, _≤_}
+use mathlib.Core.Bool.{true, false}
+use mathlib.Core.Path.{_≡_, sym, ap, _∙_, subst}
+use Prim.Native.Nat.{suc, _^_, _<_}
 use native.Mathlib.Nat.{zero-add}
 use native.Mathlib.Omega.{arith}
 use borrow.Author.Tests.{ltb-true, ltb-false}
@@ -11,10 +11,7 @@ use mir.ValLaws.{toZ-ofZ}
 use lib.Dec.{T, leb·zero}
 use lib.IntN.{ℤ, pos, negsuc, natAbs, _-ℤ_}
 use lib.Signed.{leZ, ltZ, nonNeg, mag}
-
--- the two truth values differ
-apart : true ≡ false → ⊥
-apart e = subst T e tt
+use Rattle.text.proofs.Patterns.{apart}
 
 not-below : (y : ℤ) → mag y < 2 ^ 63 → leZ (pos 0) y ≡ true → T (nonNeg y) × Fits w64 (natAbs y)
 not-below (pos n) f e = (tt, record { fits = omega arith })

@@ -1,10 +1,11 @@
 -- Areas as words, byte by byte: "An area is its samples' digits run together, or `-` when empty." Definitions only.
 use mathlib.Core.Bool.{cond}
-use mathlib.Core.List.{List}
+use mathlib.Core.List.{List, [], _∷_, _++_}
 use Prim.Native.Nat.{ℕ, _+_}
 use lib.Dec.{eqb, ltb}
-use lib.Ieee.{Float, binary64, ofBits}
-use lib.ListN.{set}
+use lib.Ieee.{Float, binary64, toBits, ofBits}
+use lib.ListN.{length, set}
+use Rattle.text.specs.Digits.{hexDigits}
 use Rattle.text.specs.Words.{noDigits, stepRun}
 use Rattle.text.specs.declared.words.Run.{Run}
 use Rattle.text.specs.declared.words.Run.the-variants as run
@@ -46,3 +47,26 @@ areaDone area.Start = parsed.Bad
 areaDone area.Dash = parsed.Number 0
 areaDone (area.Samples k r) = samplesDone k r
 areaDone area.Bad = parsed.Bad
+
+-- ---- a whole word
+-- what reading has come to: how far the word is, and what the area holds
+pub record Held : Type 0 where
+  pub read : Area
+  pub samples : List Float
+
+abbrev pub heldStep : Held → ℕ → Held
+heldStep h c = record { read = areaStep (length (h .samples)) (h .read) c; samples = areaAfter (h .samples) (h .read) c }
+
+-- a word read byte by byte
+unfoldable pub readAll : Held → List ℕ → Held
+readAll h [] = h
+readAll h (c ∷ w) = readAll (heldStep h c) w
+
+-- samples as text, and an area
+unfoldable pub samplesText : List Float → List ℕ
+samplesText [] = []
+samplesText (x ∷ xs) = hexDigits (toBits binary64 x) ++ samplesText xs
+
+unfoldable pub areaText : List Float → List ℕ
+areaText [] = 45 ∷ []
+areaText (x ∷ xs) = samplesText (x ∷ xs)
