@@ -52,15 +52,6 @@ fn failed(a: Account) -> Account {
     next
 }
 
-// d, the ramp's increment for n output frames, by the block run's own operations; 0 for no frames.
-fn increment(s: State, n: u32) -> f64 {
-    if n == 0 {
-        return 0.0;
-    }
-    let frames = asynchro::sizes::float_of(n as usize);
-    (asynchro::record::step_then(s) - asynchro::record::step_now(s)) / frames
-}
-
 // n*(n+1)/2.
 fn triangle(n: u32) -> u32
     requires { ⌜ n ≤ 65536 ⌝ }
@@ -101,7 +92,7 @@ fn added(a: Account, next: State, used: u64, n: u32) -> Account
     requires { ⌜ n ≤ 65536 ⌝ }
 {
     let s = a.state;
-    let d = increment(s, n);
+    let d = process::t_ratio_increment(s);
     let FromDouble::Units(step) = exact_move(asynchro::record::step_now(s), d, n) else {
         return failed(a);
     };

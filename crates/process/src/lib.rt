@@ -98,7 +98,7 @@ fn validate_buffers(
 }
 
 // The ramp's increment; 0 where there is no frame to use it.
-fn t_ratio_increment(s: State) -> f64
+pub fn t_ratio_increment(s: State) -> f64
     ensures { λ d. ⌜ d ≡ incrementOf s ⌝ }
 {
     if s.output == 0 {

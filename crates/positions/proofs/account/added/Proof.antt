@@ -3,8 +3,8 @@ use borrow.Author.Needs.{needs}
 use Rattle.positions.proofs.account.added.Statement.{statement}
 use Rattle.positions.proofs.account.added.Tie as tie
 
-increment-requires : tie.Need-increment-requires
-increment-requires c κs = search needs
+t-ratio-increment-requires : tie.Need-t-ratio-increment-requires
+t-ratio-increment-requires c κs = search needs
 
 step-now-requires : tie.Need-step-now-requires
 step-now-requires c κs = search needs
@@ -58,7 +58,7 @@ pub added-spec : {M : Type 1} → statement M
 added-spec =
     tie.close
     (tie.spec
-    increment-requires
+    t-ratio-increment-requires
     step-now-requires
     exact-move-requires
     enum-known-step
