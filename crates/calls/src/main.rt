@@ -1,30 +1,20 @@
 // The call script: reads lines on standard input and answers each with one line on standard output,
 // which is written before the next line is read.
-mod leaves;
-mod line;
-mod printer;
-mod reader;
-mod record;
-mod said;
-mod values;
-mod words;
-
-use asynchro::record::State;
-use line::Line;
-use line::command_in;
-use line::read_line;
-use printer::Output;
-use printer::flushed;
+use commands::answer::put_answer;
+use commands::record::Change;
+use commands::record::Kept;
+use commands::record::nothing;
+use commands::run;
+use libc::STDOUT_FILENO;
+use printer::bytes_of;
 use printer::put_byte;
-use reader::Input;
-use reader::start;
-use record::Change;
-use record::Kept;
-use record::nothing;
-use said::Said;
-use said::Shown;
-use said::put_said;
-use words::Command;
+use script::line::Line;
+use script::line::command_in;
+use script::line::read_line;
+use script::reader::Input;
+use script::reader::start;
+ghost use mathlib.Core.Path.{_≡_};
+ghost use lib.ListN.{length};
 
 // What is kept from line to line. `going` is false once the input is over or a write has failed.
 struct Served {
@@ -33,65 +23,12 @@ struct Served {
     going: bool,
 }
 
-// What a command says that keeps the record and the working area.
-fn told(command: Command, state: State, values: &[u64], input: &[f64]) -> Said {
-    match command {
-        Command::Area => Said::Kept(Shown::Area),
-        Command::Q => record::questions(state),
-        Command::K => leaves::kernel(values, input),
-        Command::SLin => leaves::blend(2, values, input),
-        Command::SQuad => leaves::blend(3, values, input),
-        Command::SCubic => leaves::blend(4, values, input),
-        Command::WLin => leaves::weights_lin(values),
-        Command::WQuad => leaves::weights_quad(values),
-        Command::WCubic => leaves::weights_cubic(values),
-        Command::Near => leaves::near(values),
-        Command::Cutoff => leaves::cutoff(values),
-        _ => Said::Bad,
-    }
-}
-
-// Runs a command that keeps the working area.
-fn run_apart(command: Command, kept: Kept, values: &[u64], input: &[f64]) -> Change {
-    let state = kept.state;
-    let len = kept.len;
-    match command {
-        Command::Rec => record::rec(len, values),
-        Command::Abs => record::abs(state, len, values),
-        Command::Rel => record::rel(state, len, values),
-        Command::Chunk => record::chunk(state, len, values),
-        _ => record::changed(state, len, told(command, state, values, input)),
-    }
-}
-
-// Runs a command on what is kept.
-fn run(
-    command: Command,
-    kept: Kept,
-    values: &[u64],
-    input: &[f64],
-    output: &mut [f64],
-    work: &mut [f64],
-) -> Change {
-    match command {
-        Command::New => record::new(kept, values, work),
-        Command::SetArea => record::set_area(kept, values, input, work),
-        Command::Reset => record::reset(kept, work),
-        Command::Block => record::block(kept, values, input, output, work),
-        _ => run_apart(command, kept, values, input),
-    }
-}
-
 // The answer with its newline, all of it written.
-fn written(change: Change, output: &[f64], work: &[f64], out: &mut [u8]) -> bool {
-    let kept = change.kept;
-    let said = change.said;
-    let state = kept.state;
-    let empty = Output { at: 0, open: true };
-    let p = put_said(out, empty, said, state, work, kept.len, output);
-    let q = put_byte(out, p, 10);
-    let end = flushed(out, q);
-    end.open
+fn written(change: Change, work: &[f64], output: &[f64], out: &mut [u8]) -> bool {
+    let at = put_answer(out, change, work, output);
+    let end = put_byte(out, at, 10);
+    let n = bytes_of(out, end);
+    io::write_all(STDOUT_FILENO, &out[..n])
 }
 
 // Runs a line that was read, and writes its answer.
@@ -110,7 +47,7 @@ fn answered(
     Served {
         kept: left,
         input: then,
-        going: written(done, output, work, out),
+        going: written(done, work, output, out),
     }
 }
 
@@ -166,9 +103,17 @@ fn serve(
     }
 }
 
+// An area has up to 131,072 samples, and its text 16 times as many bytes. 1,024 bytes more hold the
+// other words of an answer.
+fn answer_buffer() -> [u8; 2098176]
+    ensures { λ r. ⌜ 2098176 ≡ length r ⌝ }
+{
+    [0; 2098176]
+}
+
 fn main() {
     let mut buf = io::large_buffer();
-    let mut out = io::large_buffer();
+    let mut out = answer_buffer();
     let mut values = [0u64; 16];
     let mut input = [0.0; 131072];
     let mut output = [0.0; 131072];

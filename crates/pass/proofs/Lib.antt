@@ -2,3 +2,5 @@
 pub mod Words
 pub mod Bytes
 pub mod Places
+pub mod Products
+pub mod Once

@@ -1,6 +1,7 @@
 // Samples between interleaved bytes and an area, channel after channel. Only our own crates call these
 // functions, and each has a `requires`.
-use crate::samples::{put_sample, sample_at};
+use crate::samples::put_sample;
+use crate::samples::sample_at;
 ghost use mathlib.Core.Path.{_≡_};
 ghost use Prim.Native.Nat.{_+_, _*_, _<_, _≤_};
 ghost use lib.ListN.{length};
@@ -15,14 +16,7 @@ fn place_of(channels: usize, share: usize, k: usize) -> usize
 }
 
 // n samples from the bytes become the samples number `first` and on of the area.
-pub fn spread(
-    bytes: &[u8],
-    n: usize,
-    area: &mut [f64],
-    channels: usize,
-    share: usize,
-    first: usize,
-)
+pub fn spread(bytes: &[u8], n: usize, area: &mut [f64], channels: usize, share: usize, first: usize)
     requires { ⌜ (0 < channels) × (first + n ≤ channels * share) × (channels * share ≤ 1048576) ⌝ }
     requires { ⌜ (channels * share ≤ length (now area)) × (8 * n ≤ length (now bytes)) ⌝ }
     ensures { λ _. ⌜ now (area .exit) ≡ spreadTo channels share first (now (bytes .entry)) (now (area .entry)) n ⌝ }
@@ -35,14 +29,7 @@ pub fn spread(
 }
 
 // The n samples number `first` and on of the area become bytes.
-pub fn gather(
-    area: &[f64],
-    channels: usize,
-    share: usize,
-    first: usize,
-    bytes: &mut [u8],
-    n: usize,
-)
+pub fn gather(area: &[f64], channels: usize, share: usize, first: usize, bytes: &mut [u8], n: usize)
     requires { ⌜ (0 < channels) × (first + n ≤ channels * share) × (channels * share ≤ 1048576) ⌝ }
     requires { ⌜ (channels * share ≤ length (now area)) × (8 * n ≤ length (now bytes)) ⌝ }
     ensures { λ _. ⌜ now (bytes .exit) ≡ gatheredTo channels share first (now (area .entry)) (now (bytes .entry)) n ⌝ }

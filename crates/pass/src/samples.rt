@@ -13,7 +13,6 @@ fn wide(byte: u8) -> u64
     byte as u64
 }
 
-
 // The sample whose bytes start at `at`.
 pub fn sample_at(bytes: &[u8], at: usize) -> f64
     requires { ⌜ at + 8 ≤ length (now bytes) ⌝ }

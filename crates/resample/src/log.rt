@@ -1,4 +1,8 @@
 // The log: a line a block.
+use printer::put_bits;
+use printer::put_byte;
+use printer::put_bytes;
+use printer::put_decimal;
 
 // What a line tells: the block's number, its frames, the step at its start and the increment, the
 // index that it leaves, and all output frames and blocks so far.
@@ -13,36 +17,16 @@ pub struct Entry {
     pub blocks: u64,
 }
 
-fn put_byte(line: &mut [u8], at: usize, byte: u8) -> usize {
-    if at < line.len() {
-        line[at] = byte;
-        return at + 1;
-    }
-    at
-}
-
-fn put_bytes(line: &mut [u8], at: usize, text: &[u8]) -> usize {
-    let mut p = at;
-    for k in 0..text.len() {
-        p = put_byte(line, p, text[k]);
-    }
-    p
-}
-
 // A name and a whole number.
 fn put_count(line: &mut [u8], at: usize, name: &[u8], n: u64) -> usize {
-    let mut digits = [0u8; 20];
-    let k = io::decimal(n, &mut digits);
     let p = put_bytes(line, at, name);
-    put_bytes(line, p, &digits[..k])
+    put_decimal(line, p, n)
 }
 
 // A name and the 16 digits of a float's bits.
 fn put_float(line: &mut [u8], at: usize, name: &[u8], x: f64) -> usize {
-    let mut digits = [0u8; 16];
-    text::put_hex(&mut digits, 0, text::bits_of(x));
     let p = put_bytes(line, at, name);
-    put_bytes(line, p, &digits)
+    put_bits(line, p, x)
 }
 
 fn put_frames(line: &mut [u8], block: u64, input: u64, output: u64) -> usize {

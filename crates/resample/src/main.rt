@@ -1,17 +1,12 @@
 // Samples in, samples out, at another rate: the words of the command line say how (`--help`).
-mod blocks;
-mod counts;
-mod files;
-mod help;
 mod log;
-mod options;
 mod run;
-mod say;
 mod setup;
 mod tones;
-mod words;
+
 use options::Options;
-use say::{say, say_start};
+use options::say;
+use options::say_start;
 
 // The areas of a pass have up to 131,072 samples each.
 fn pass_on(o: Options, changes: &[u64]) {
@@ -22,7 +17,7 @@ fn pass_on(o: Options, changes: &[u64]) {
 }
 
 fn tones_on(o: Options) {
-    let files = files::open_files(o);
+    let files = options::open_files(o);
     if files.good {
         tones::write_tones(o.tones, files.output);
     }
@@ -34,7 +29,7 @@ fn act(o: Options, changes: &[u64]) {
         return;
     }
     if o.help {
-        help::help();
+        options::help();
         return;
     }
     if o.has_tones {
@@ -51,6 +46,6 @@ fn act(o: Options, changes: &[u64]) {
 
 fn main() {
     let mut changes = [0u64; 48];
-    let o = words::read_words(&mut changes);
+    let o = options::read_words(&mut changes);
     act(o, &changes);
 }

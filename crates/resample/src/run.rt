@@ -1,16 +1,29 @@
 // The pass: block after block until the input is over.
-use crate::blocks::{read_block, write_block, Reading};
-use crate::counts::{bytes_of, plus, samples_of};
-use crate::files::{open_files, Files};
-use crate::log::{put_entry, Entry};
-use crate::options::Options;
-use crate::say::{say, say_number, say_refused, say_start};
-use crate::setup::{
-    all_changes, area_length, increment_of, is_ready, made_told, mask_of, work_length,
-};
-use asynchro::record::{Made, State};
+use crate::log::Entry;
+use crate::log::put_entry;
+use crate::setup::all_changes;
+use crate::setup::area_length;
+use crate::setup::is_ready;
+use crate::setup::made_told;
+use crate::setup::mask_of;
+use crate::setup::work_length;
+use asynchro::record::Made;
+use asynchro::record::State;
 use error::Refusal;
-use process::{BlockOutcome, Ran};
+use options::Files;
+use options::Options;
+use options::open_files;
+use options::say;
+use options::say_number;
+use options::say_refused;
+use options::say_start;
+use pass::Reading;
+use pass::read_block;
+use pass::write_block;
+use printer::bytes_of;
+use printer::samples_of;
+use process::BlockOutcome;
+use process::Ran;
 
 // The blocks so far, and all frames in and out. `going` is false once the run is to stop, and `good`
 // where that is before the input's end.
@@ -176,7 +189,7 @@ fn logged(t: Totals, s: State, block: u64, index: f64, files: Files) -> Totals {
         input: s.input as u64,
         output: s.output as u64,
         step: asynchro::record::step_now(s),
-        increment: increment_of(s),
+        increment: process::t_ratio_increment(s),
         index,
         frames: t.output,
         blocks: t.blocks,
@@ -189,6 +202,11 @@ fn logged(t: Totals, s: State, block: u64, index: f64, files: Files) -> Totals {
         say_frames(t);
     }
     t
+}
+
+// A sum that stays at the largest number.
+fn plus(a: u64, b: u64) -> u64 {
+    if b <= u64::MAX - a { a + b } else { u64::MAX }
 }
 
 fn added(t: Totals, frames: usize, output: usize, ended: bool) -> Totals {

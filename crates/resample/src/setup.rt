@@ -1,14 +1,18 @@
 // The record that the words ask for, the changes of its ratio, and how large the areas of a pass are.
-use crate::counts::samples_in;
-use crate::options::Options;
-use crate::say::{say, say_number, say_refused, say_start};
-use asynchro::record::{Made, State};
+use asynchro::Count;
+use asynchro::Done;
+use asynchro::Outcome;
+use asynchro::record::Made;
+use asynchro::record::State;
 use asynchro::sizes::FixedAsync;
-use asynchro::{Count, Done, Outcome};
 use asynchro_fast::PolynomialDegree;
 use error::Refusal;
-ghost use mathlib.Core.Path.{_≡_};
-ghost use Rattle.process.specs.Block.{incrementOf};
+use options::Options;
+use options::say;
+use options::say_number;
+use options::say_refused;
+use options::say_start;
+use pass::samples_in;
 
 // A record after the changes before a block; `good` is false where one was refused.
 pub struct Changed {
@@ -57,11 +61,19 @@ pub fn made_told(o: Options) -> Made {
 
 // The bits of all channels.
 fn all_on(channels: usize) -> u64 {
-    if channels <= 16 { 65535 >> (16 - channels) } else { 0 }
+    if channels <= 16 {
+        65535 >> (16 - channels)
+    } else {
+        0
+    }
 }
 
 pub fn mask_of(o: Options) -> u64 {
-    if o.has_mask { o.mask } else { all_on(o.channels) }
+    if o.has_mask {
+        o.mask
+    } else {
+        all_on(o.channels)
+    }
 }
 
 fn mask_holds(mask: u64, channels: usize) -> bool {
@@ -169,15 +181,4 @@ pub fn all_changes(state: State, count: usize, block: u64, changes: &[u64]) -> C
         }
     }
     c
-}
-
-// The increment that a block adds to its step a frame, as the block run has it.
-pub fn increment_of(s: State) -> f64
-    ensures { λ d. ⌜ d ≡ incrementOf s ⌝ }
-{
-    if s.output == 0 {
-        return 0.0;
-    }
-    let n = asynchro::sizes::float_of(s.output);
-    (asynchro::record::step_then(s) - asynchro::record::step_now(s)) / n
 }

@@ -1,6 +1,9 @@
 // Two test tones at 48,000 frames a second: 440 Hz in the first channel and 1,000 Hz in the second.
-use crate::counts::{bytes_of, least};
-use crate::say::{say, say_number, say_start};
+use options::say;
+use options::say_number;
+use options::say_start;
+use pass::least;
+use printer::bytes_of;
 ghost use Prim.Native.Nat.{_*_, _≤_};
 ghost use lib.ListN.{length};
 

@@ -1,2 +1,0 @@
--- The call script. Definitions only.
-pub mod Within

@@ -1,2 +1,0 @@
--- Laws that the proofs here share. Assumes nothing.
-pub mod Lengths

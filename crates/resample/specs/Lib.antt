@@ -1,2 +1,0 @@
--- The program that people run. Definitions only.
-pub mod Within

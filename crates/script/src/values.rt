@@ -1,0 +1,61 @@
+// The numbers of a line's words, as the calls take them.
+use asynchro::sizes::FixedAsync;
+use asynchro_fast::PolynomialDegree;
+use windows::WindowFunction;
+
+pub fn number_at(values: &[u64], k: usize) -> u64 {
+    if k < values.len() { values[k] } else { 0 }
+}
+
+fn as_count(n: u64) -> usize {
+    n as usize
+}
+
+pub fn count_at(values: &[u64], k: usize) -> usize {
+    as_count(number_at(values, k))
+}
+
+pub fn float_at(values: &[u64], k: usize) -> f64 {
+    text::of_bits(number_at(values, k))
+}
+
+pub fn flag_at(values: &[u64], k: usize) -> bool {
+    number_at(values, k) == 1
+}
+
+fn degree_of(l: u64) -> PolynomialDegree {
+    match l {
+        1 => PolynomialDegree::Nearest,
+        2 => PolynomialDegree::Linear,
+        4 => PolynomialDegree::Cubic,
+        6 => PolynomialDegree::Quintic,
+        _ => PolynomialDegree::Septic,
+    }
+}
+
+pub fn degree_at(values: &[u64], k: usize) -> PolynomialDegree {
+    degree_of(number_at(values, k))
+}
+
+pub fn side_at(values: &[u64], k: usize) -> FixedAsync {
+    if flag_at(values, k) {
+        FixedAsync::Output
+    } else {
+        FixedAsync::Input
+    }
+}
+
+fn window_of(n: u64) -> WindowFunction {
+    match n {
+        0 => WindowFunction::Blackman,
+        1 => WindowFunction::Blackman2,
+        2 => WindowFunction::BlackmanHarris,
+        3 => WindowFunction::BlackmanHarris2,
+        4 => WindowFunction::Hann,
+        _ => WindowFunction::Hann2,
+    }
+}
+
+pub fn window_at(values: &[u64], k: usize) -> WindowFunction {
+    window_of(number_at(values, k))
+}
