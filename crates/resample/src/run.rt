@@ -345,23 +345,39 @@ fn none_yet() -> Totals {
     }
 }
 
-// How the run ended. The output is closed where it is a file.
-fn tell_done(t: Totals, output: i32) {
+// Closes the output where it is a file, and says whether that went well: what was written last may be
+// lost only now.
+fn closed(output: i32) -> bool {
     if output > 2 {
         if libc::close(output) < 0 {
             os::fail(b"resample: closing the output");
+            return false;
         }
     }
+    true
+}
+
+fn say_end(good: bool, whole: bool) {
+    if !good {
+        say(b"stopped before the end of the input: ");
+        return;
+    }
+    if !whole {
+        say(b"the output may not be whole: ");
+        return;
+    }
+    say(b"done: ");
+}
+
+// How the run ended.
+fn tell_done(t: Totals, output: i32) {
+    let whole = closed(output);
     if t.good & (t.blocks == 0) {
         say_start();
         say(b"the input has no whole frame, so there is no output\n");
     }
     say_start();
-    if t.good {
-        say(b"done: ");
-    } else {
-        say(b"stopped before the end of the input: ");
-    }
+    say_end(t.good, whole);
     say_frames(t);
 }
 
