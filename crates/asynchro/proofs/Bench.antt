@@ -9,11 +9,11 @@ use Rattle.error.specs.Refusals.{given, refused, unless}
 use Rattle.whole.specs.Rounded.{madeWhole}
 use Rattle.asynchro_fast.specs.declared.PolynomialDegree.{PolynomialDegree}
 use Rattle.asynchro_fast.specs.declared.PolynomialDegree.the-variants.{Nearest, Linear, Cubic, Quintic, Septic}
-use Rattle.asynchro.specs.declared.sizes.FixedAsync.{FixedAsync}
-use Rattle.asynchro.specs.declared.sizes.FixedAsync.the-variants.{Input, Output}
-use Rattle.asynchro.specs.declared.record.State.{State}
-use Rattle.asynchro.specs.Sizes.{twoF, sizeOf, neededInput, neededOutput, maxInput, maxOutput}
-use Rattle.asynchro.specs.Record.{changed, isState, updateLengths}
+use Rattle.state.specs.declared.sizes.FixedAsync.{FixedAsync}
+use Rattle.state.specs.declared.sizes.FixedAsync.the-variants.{Input, Output}
+use Rattle.state.specs.declared.record.State.{State}
+use Rattle.state.specs.Sizes.{twoF, sizeOf, neededInput, neededOutput, maxInput, maxOutput}
+use Rattle.state.specs.Record.{changed, isState, updateLengths}
 use Rattle.asynchro.specs.Calls.{firstLengths, construct, setRatio}
 
 -- a record of one channel right after construction: the fill is the needed input

@@ -13,18 +13,18 @@ use Rattle.error.specs.Refusals.{Said, given, refused, unless}
 use Rattle.whole.proofs.Sizes.{both}
 use Rattle.asynchro_fast.specs.declared.PolynomialDegree.{PolynomialDegree}
 use Rattle.asynchro_fast.specs.Degrees.{pointsOf}
-use Rattle.asynchro.specs.declared.sizes.FixedAsync.{FixedAsync}
-use Rattle.asynchro.specs.declared.sizes.FixedAsync.the-variants.{Input, Output}
-use Rattle.asynchro.specs.declared.sizes.Size.{Size}
-use Rattle.asynchro.specs.declared.sizes.Size.the-variants.{Frames, TooLarge}
-use Rattle.asynchro.specs.declared.record.State.{State}
-use Rattle.asynchro.specs.Bounds.{isRatio, isChannels, isChunk, isSize}
-use Rattle.asynchro.specs.Sizes.{sized, maxInput, maxOutput, isFrames, framesOf, sizeIs, sizeHolds}
-use Rattle.asynchro.specs.Record.{inputOf, outputOf, maxInputOf, maxOutputOf, countsHold, maximaHold, isState, withSizes, updateLengths}
+use Rattle.state.specs.declared.sizes.FixedAsync.{FixedAsync}
+use Rattle.state.specs.declared.sizes.FixedAsync.the-variants.{Input, Output}
+use Rattle.state.specs.declared.sizes.Size.{Size}
+use Rattle.state.specs.declared.sizes.Size.the-variants.{Frames, TooLarge}
+use Rattle.state.specs.declared.record.State.{State}
+use Rattle.state.specs.Bounds.{isRatio, isChannels, isChunk, isSize}
+use Rattle.state.specs.Sizes.{sized, maxInput, maxOutput, isFrames, framesOf, sizeIs, sizeHolds}
+use Rattle.state.specs.Record.{inputOf, outputOf, maxInputOf, maxOutputOf, countsHold, maximaHold, isState, withSizes, updateLengths}
 use Rattle.asynchro.specs.Calls.{endOf, freshState, withFill, filled, firstLengths, construct, relativeHolds, withRatio, applied, setRatio, setRelative, withChunk, chunked, setChunk}
-use Rattle.asynchro.proofs.Points.{points-between}
-use Rattle.asynchro.proofs.Start.{start-inside}
-use Rattle.asynchro.proofs.Valid.{join, Ready, Needed, tests, passes, valid}
+use Rattle.state.proofs.Points.{points-between}
+use Rattle.state.proofs.Start.{start-inside}
+use Rattle.state.proofs.Valid.{join, Ready, Needed, tests, passes, valid}
 
 -- a ladder that gives passed its test, and went on
 pub accepted : {A : Type 0} (b : Bool) (n : ℕ) (vs : List Float) (next : Said A) (a : A) → unless b n vs next ≡ given a → (b ≡ true) × (next ≡ given a)

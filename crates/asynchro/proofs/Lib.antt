@@ -1,10 +1,4 @@
--- Laws of the ratio state. Assumes nothing.
-pub mod Constants
-pub mod Truncated
-pub mod Points
-pub mod Start
-pub mod Valid
+-- Laws of the calls on a ratio state. Assumes nothing.
 pub mod Keeps
-pub mod Delay
 pub mod Settled
 pub mod Bench

@@ -3,15 +3,15 @@ use mathlib.Core.Path.{_≡_, refl, ap}
 use Prim.Native.Nat.{ℕ}
 use Rattle.error.specs.Refusals.{Said, given, refused}
 use Rattle.error.proofs.Settled.{refusalOf, refusal-back, settled}
-use Rattle.asynchro.specs.declared.record.State.{State}
-use Rattle.asynchro.specs.declared.record.Made.{Made}
-use Rattle.asynchro.specs.declared.record.Made.the-variants as made
+use Rattle.state.specs.declared.record.State.{State}
+use Rattle.state.specs.declared.record.Made.{Made}
+use Rattle.state.specs.declared.record.Made.the-variants as made
 use Rattle.asynchro.specs.declared.Done.{Done}
 use Rattle.asynchro.specs.declared.Done.the-variants as done
 use Rattle.asynchro.specs.declared.Count.{Count}
 use Rattle.asynchro.specs.declared.Count.the-variants as counted
 use Rattle.asynchro.specs.declared.Outcome.{Outcome}
-use Rattle.asynchro.specs.Record.{saidMade}
+use Rattle.state.specs.Record.{saidMade}
 use Rattle.asynchro.specs.Calls.{Result, saidDone, saidCount, resultOf}
 
 madeOf : Said State → Made

@@ -8,16 +8,16 @@ use Rattle.exact.specs.Doubles.{_*f_, _/f_, oneF, aboveZero, atLeastOne}
 use Rattle.error.specs.Refusals.{Said, given, refused, unless, numberOf, valuesOf}
 use Rattle.asynchro_fast.specs.declared.PolynomialDegree.{PolynomialDegree}
 use Rattle.asynchro_fast.specs.Degrees.{pointsOf}
-use Rattle.asynchro.specs.declared.sizes.FixedAsync.{FixedAsync}
-use Rattle.asynchro.specs.declared.record.State.{State}
+use Rattle.state.specs.declared.sizes.FixedAsync.{FixedAsync}
+use Rattle.state.specs.declared.record.State.{State}
 use Rattle.asynchro.specs.declared.Done.{Done}
 use Rattle.asynchro.specs.declared.Done.the-variants as done
 use Rattle.asynchro.specs.declared.Count.{Count}
 use Rattle.asynchro.specs.declared.Count.the-variants as counted
 use Rattle.asynchro.specs.declared.Outcome.{Outcome}
-use Rattle.asynchro.specs.Bounds.{isRatio, isChannels}
-use Rattle.asynchro.specs.Sizes.{startOf}
-use Rattle.asynchro.specs.Record.{maximaHold, isState, changed, updateLengths}
+use Rattle.state.specs.Bounds.{isRatio, isChannels}
+use Rattle.state.specs.Sizes.{startOf}
+use Rattle.state.specs.Record.{maximaHold, isState, changed, updateLengths}
 
 -- What a call on a record leaves: the record, and what it says.
 pub record Result (A : Type 0) : Type 0 where

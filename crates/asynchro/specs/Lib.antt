@@ -1,5 +1,2 @@
--- The ratio state: its sizes, the StateRecord test, construction, settings and questions. Definitions only.
-pub mod Bounds
-pub mod Sizes
-pub mod Record
+-- The calls on a ratio state: construction, settings and questions. Definitions only.
 pub mod Calls

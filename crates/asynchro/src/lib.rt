@@ -1,19 +1,16 @@
 // The ratio state: construction, settings and questions. Document 01: "The ratio state", "Ratio
 // changes", "Refusal numbers".
-pub mod record;
-pub mod sizes;
-
 use asynchro_fast::PolynomialDegree;
 use error::Answer;
 use error::Refusal;
-use record::Made;
-use record::State;
-use sizes::FixedAsync;
+use state::record::Made;
+use state::record::State;
+use state::sizes::FixedAsync;
 ghost use mathlib.Core.Path.{_≡_};
 ghost use Rattle.error.specs.Refusals.{saidAnswer};
 ghost use Rattle.exact.specs.Doubles.{aboveZero};
-ghost use Rattle.asynchro.specs.Sizes.{framesOf, delayOf};
-ghost use Rattle.asynchro.specs.Record.{pointsIn, maxInputOf, maxOutputOf, saidMade};
+ghost use Rattle.state.specs.Sizes.{framesOf, delayOf};
+ghost use Rattle.state.specs.Record.{pointsIn, maxInputOf, maxOutputOf, saidMade};
 ghost use Rattle.asynchro.specs.Calls.{
   saidCount,
   resultOf,
@@ -89,7 +86,7 @@ fn fresh_state(
         input: 0,
         output: 0,
         fill: 0,
-        index: sizes::start_index(asynchro_fast::nbr_points(degree)),
+        index: state::sizes::start_index(asynchro_fast::nbr_points(degree)),
         original: r,
         current: r,
         target: r,
@@ -103,10 +100,10 @@ fn fresh_state(
 fn first_lengths(s: State) -> Made
     ensures { λ r. ⌜ saidMade r ≡ firstLengths s ⌝ }
 {
-    if !record::maxima_hold(s) {
+    if !state::record::maxima_hold(s) {
         return Made::Refused(Refusal::SizeTooLarge);
     }
-    match record::update_lengths(s) {
+    match state::record::update_lengths(s) {
         Made::Ready(t) => {
             let mut next = t;
             next.fill = t.input;
@@ -130,16 +127,16 @@ pub fn new_poly(
     if !above_zero(r) {
         return Made::Refused(Refusal::InvalidRatio(r));
     }
-    if !record::at_least_one(m) {
+    if !state::record::at_least_one(m) {
         return Made::Refused(Refusal::InvalidRelativeRatio(m));
     }
     if chunk < 1 {
         return Made::Refused(Refusal::InvalidChunkSize);
     }
-    if !record::is_ratio(r) {
+    if !state::record::is_ratio(r) {
         return Made::Refused(Refusal::RatioBeyondPort(r));
     }
-    if !record::is_channels(channels) {
+    if !state::record::is_channels(channels) {
         return Made::Refused(Refusal::Channels);
     }
     first_lengths(fresh_state(r, m, degree, chunk, channels, fixed))
@@ -156,13 +153,13 @@ fn relative_ratio_in_bounds(m: f64, rel: f64) -> bool
 fn apply_ratio(s: State, accepted: bool, r: f64, ramp: bool) -> Made
     ensures { λ t. ⌜ saidMade t ≡ applied s accepted r ramp ⌝ }
 {
-    if !record::is_state(s) {
+    if !state::record::is_state(s) {
         return Made::Refused(Refusal::StateRecord);
     }
     if !accepted {
         return Made::Refused(Refusal::RatioOutOfBounds(r, s.original, s.m));
     }
-    if !record::is_ratio(r) {
+    if !state::record::is_ratio(r) {
         return Made::Refused(Refusal::RatioBeyondPort(r));
     }
     let mut next = s;
@@ -170,7 +167,7 @@ fn apply_ratio(s: State, accepted: bool, r: f64, ramp: bool) -> Made
     if !ramp {
         next.current = r;
     }
-    record::update_lengths(next)
+    state::record::update_lengths(next)
 }
 
 // An absolute setting: refusals 10, 4, 5, 6.
@@ -194,7 +191,7 @@ pub fn set_resample_ratio_relative(s: State, rel: f64, ramp: bool) -> Outcome
 fn apply_chunk(s: State, n: usize) -> Made
     ensures { λ t. ⌜ saidMade t ≡ chunked s n ⌝ }
 {
-    if !record::is_state(s) {
+    if !state::record::is_state(s) {
         return Made::Refused(Refusal::StateRecord);
     }
     if !((1 <= n) & (n <= s.chunk0)) {
@@ -202,7 +199,7 @@ fn apply_chunk(s: State, n: usize) -> Made
     }
     let mut resized = s;
     resized.chunk = n;
-    record::update_lengths(resized)
+    state::record::update_lengths(resized)
 }
 
 // A chunk setting: refusals 10, 3, 6.
@@ -216,7 +213,7 @@ pub fn set_chunk_size(s: State, n: usize) -> Outcome
 fn asked_count(s: State, n: usize) -> Count
     ensures { λ r. ⌜ saidCount r ≡ asked s n ⌝ }
 {
-    if record::is_state(s) {
+    if state::record::is_state(s) {
         Count::Number(n)
     } else {
         Count::Refused(Refusal::StateRecord)
@@ -241,14 +238,14 @@ pub fn output_frames_next(s: State) -> Count
 pub fn input_frames_max(s: State) -> Count
     ensures { λ r. ⌜ saidCount r ≡ asked s (framesOf (maxInputOf s)) ⌝ }
 {
-    asked_count(s, sizes::frames_of(record::max_input_of(s)))
+    asked_count(s, state::sizes::frames_of(state::record::max_input_of(s)))
 }
 
 // The maximum output, from the construction values.
 pub fn output_frames_max(s: State) -> Count
     ensures { λ r. ⌜ saidCount r ≡ asked s (framesOf (maxOutputOf s)) ⌝ }
 {
-    asked_count(s, sizes::frames_of(record::max_output_of(s)))
+    asked_count(s, state::sizes::frames_of(state::record::max_output_of(s)))
 }
 
 // The channel count.
@@ -264,7 +261,7 @@ pub fn output_delay(s: State) -> Count
 {
     asked_count(
         s,
-        sizes::frames_of(sizes::delay_of(record::points_in(s), s.current)),
+        state::sizes::frames_of(state::sizes::delay_of(state::record::points_in(s), s.current)),
     )
 }
 
@@ -272,7 +269,7 @@ pub fn output_delay(s: State) -> Count
 pub fn resample_ratio(s: State) -> Answer
     ensures { λ r. ⌜ saidAnswer r ≡ asked s (s .current) ⌝ }
 {
-    if record::is_state(s) {
+    if state::record::is_state(s) {
         Answer::Value(s.current)
     } else {
         Answer::Refused(Refusal::StateRecord)

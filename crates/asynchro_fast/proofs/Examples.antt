@@ -6,7 +6,7 @@ use lib.Ieee.{Float, binary64, add, sub, mul, div, neg, ofInt, ofBits}
 use Rattle.exact.specs.Doubles.{_/f_, count, zeroF, oneF, halfF}
 use Rattle.asynchro_fast.specs.declared.PolynomialDegree.the-variants.{Nearest, Linear, Cubic, Quintic, Septic}
 use Rattle.asynchro_fast.specs.Kernels.{interpOf}
-use Rattle.asynchro_fast.specs.Rows.{sumFrom, horner, kernel}
+use Rattle.rows.specs.Rows.{sumFrom, horner, kernel}
 
 -- the double nearest to 7/17
 abbrev seven17 : Float

@@ -14,7 +14,7 @@ use lib.ListN.{length}
 use Rattle.asynchro_fast.specs.declared.PolynomialDegree.the-variants.{Quintic, Septic}
 use Rattle.asynchro_fast.specs.Degrees.{pointsOf, beforeOf}
 use Rattle.asynchro_fast.specs.Nodes.{entry, weighted, hornerOn, rowsAt, factorAt, sameℤ, allBelow, nodeRule, nodesHold}
-use Rattle.asynchro_fast.specs.Rows.{septicRows, quinticRows}
+use Rattle.rows.specs.Rows.{septicRows, quinticRows}
 use Rattle.asynchro_fast.proofs.Integers.{swap-middle, add-mul, mul-add, mul-assoc}
 
 -- ---- what the test says

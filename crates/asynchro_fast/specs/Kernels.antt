@@ -6,10 +6,10 @@ use lib.Ieee.{Float, nan, binary64, neg, ofBits}
 use lib.ListN.{length, getD}
 use Rattle.exact.specs.Doubles.{_+f_, _-f_, _*f_, _/f_, oneF, halfF}
 use Rattle.error.specs.Refusals.{Said, given, unless}
+use Rattle.rows.specs.Rows.{septic, quintic}
 use Rattle.asynchro_fast.specs.declared.PolynomialDegree.{PolynomialDegree}
 use Rattle.asynchro_fast.specs.declared.PolynomialDegree.the-variants.{Nearest, Linear, Cubic, Quintic, Septic}
 use Rattle.asynchro_fast.specs.Degrees.{pointsOf}
-use Rattle.asynchro_fast.specs.Rows.{kernel, septicRows, quinticRows, per5040, per120}
 
 -- the sample number k
 abbrev pub sample : List Float → ℕ → Float
@@ -40,13 +40,6 @@ cubicOn x y0 y1 y2 y3 =
 
 abbrev pub cubic : Float → List Float → Float
 cubic x ys = cubicOn x (sample ys 0) (sample ys 1) (sample ys 2) (sample ys 3)
-
--- the rows, then Horner, then times the double 1/120 or 1/5040
-abbrev pub quintic : Float → List Float → Float
-quintic x ys = kernel quinticRows per120 x ys
-
-abbrev pub septic : Float → List Float → Float
-septic x ys = kernel septicRows per5040 x ys
 
 -- the kernel of a degree
 unfoldable pub interpOf : PolynomialDegree → Float → List Float → Float

@@ -7,8 +7,6 @@ ghost use Rattle.asynchro_fast.specs.Kernels.{cubic, linear, interpOf, k
 use error::Answer;
 use error::Refusal;
 
-mod rows;
-
 // The degree of the polynomial. A higher one fits more samples and takes longer.
 pub enum PolynomialDegree {
     // The one sample, with no fitting.

@@ -6,7 +6,6 @@ use crate::said::Said;
 use crate::said::Shown;
 use crate::said::Weights;
 use crate::said::number_in;
-use asynchro::record::State;
 use error::Answer;
 use error::Carried;
 use error::Refusal;
@@ -19,6 +18,7 @@ use printer::put_decimal;
 use printer::put_signed;
 use printer::samples_of;
 use process::Sizes;
+use state::record::State;
 
 fn put_float(out: &mut [u8], at: usize, x: f64) -> usize {
     let p = put_byte(out, at, 32);

@@ -5,12 +5,12 @@ mod leaves;
 pub mod record;
 pub mod said;
 
-use asynchro::record::State;
 use record::Change;
 use record::Kept;
 use said::Said;
 use said::Shown;
 use script::words::Command;
+use state::record::State;
 
 // What a command says that keeps the record and the working area.
 fn told(command: Command, state: State, values: &[u64], input: &[f64]) -> Said {

@@ -5,9 +5,6 @@ use crate::said::number_in;
 use asynchro::Count;
 use asynchro::Done;
 use asynchro::Outcome;
-use asynchro::record::Made;
-use asynchro::record::State;
-use asynchro::sizes::FixedAsync;
 use asynchro_fast::PolynomialDegree;
 use error::Refusal;
 use printer::samples_of;
@@ -19,6 +16,9 @@ use script::values::flag_at;
 use script::values::float_at;
 use script::values::number_at;
 use script::values::side_at;
+use state::record::Made;
+use state::record::State;
+use state::sizes::FixedAsync;
 
 // The most samples of an area.
 const MOST: usize = 131072;
@@ -99,7 +99,7 @@ fn area_length(channels: usize, most: usize, l: usize) -> usize {
 // Zeros for a new record; how many there are.
 fn zeroed(s: State, work: &mut [f64]) -> usize {
     let most = number_in(asynchro::input_frames_max(s));
-    let l = asynchro::record::points_in(s);
+    let l = state::record::points_in(s);
     let n = samples_of(work, area_length(s.channels, most, l));
     area::zero_all(&mut work[..n]);
     n

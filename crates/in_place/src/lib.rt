@@ -2,8 +2,8 @@
 // and stores the record back. Document 01: "A thin form also changes a state record in place
 // through a mutable reference".
 use asynchro::Done;
-use asynchro::record::State;
 use process::Ran;
+use state::record::State;
 ghost use mathlib.Core.Path.{_≡_};
 ghost use Rattle.asynchro.specs.Calls.{resultOf, setRatio, setRelative, setChunk};
 ghost use Rattle.process.specs.Block.{blockOf, blockLeft, resetOf, resetLeft};

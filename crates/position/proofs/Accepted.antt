@@ -11,15 +11,15 @@ use Rattle.exact.specs.Whole.{_⊕_, AtMost, Below}
 use Rattle.exact.specs.Exact.{exact, Number}
 use Rattle.error.specs.Refusals.{given}
 use Rattle.asynchro_fast.specs.declared.PolynomialDegree.{PolynomialDegree}
-use Rattle.asynchro.specs.declared.sizes.Size.the-variants.{Frames}
-use Rattle.asynchro.specs.declared.sizes.FixedAsync.{FixedAsync}
-use Rattle.asynchro.specs.declared.sizes.FixedAsync.the-variants.{Input, Output}
-use Rattle.asynchro.specs.declared.record.State.{State}
-use Rattle.asynchro.specs.Bounds.{isSize}
-use Rattle.asynchro.specs.Sizes.{neededInput, neededOutput, framesOf, isFrames, sizeHolds}
-use Rattle.asynchro.specs.Record.{pointsIn, stepNow, stepThen, inputOf, outputOf, maxInputOf, isState, withSizes, updateLengths}
-use Rattle.asynchro.proofs.Points.{points-few}
-use Rattle.asynchro.proofs.Valid.{valid}
+use Rattle.state.specs.declared.sizes.Size.the-variants.{Frames}
+use Rattle.state.specs.declared.sizes.FixedAsync.{FixedAsync}
+use Rattle.state.specs.declared.sizes.FixedAsync.the-variants.{Input, Output}
+use Rattle.state.specs.declared.record.State.{State}
+use Rattle.state.specs.Bounds.{isSize}
+use Rattle.state.specs.Sizes.{neededInput, neededOutput, framesOf, isFrames, sizeHolds}
+use Rattle.state.specs.Record.{pointsIn, stepNow, stepThen, inputOf, outputOf, maxInputOf, isState, withSizes, updateLengths}
+use Rattle.state.proofs.Points.{points-few}
+use Rattle.state.proofs.Valid.{valid}
 use Rattle.asynchro.proofs.Keeps.{accepted}
 use Rattle.frames.specs.Path.{pathAt}
 use Rattle.frames.specs.Places.{shiftOf, lastOf, allReach}

@@ -12,10 +12,10 @@ use Rattle.exact.specs.Running.{tri}
 use Rattle.error.specs.Refusals.{unless}
 use Rattle.whole.specs.Rounded.{madeWhole}
 use Rattle.asynchro_fast.specs.declared.PolynomialDegree.the-variants.{Linear}
-use Rattle.asynchro.specs.declared.sizes.FixedAsync.the-variants.{Output}
-use Rattle.asynchro.specs.declared.record.State.{State}
-use Rattle.asynchro.specs.Sizes.{twoF, startOf, sizeOf, neededInput, neededOutput, maxInput, maxOutput}
-use Rattle.asynchro.specs.Record.{isState, updateLengths}
+use Rattle.state.specs.declared.sizes.FixedAsync.the-variants.{Output}
+use Rattle.state.specs.declared.record.State.{State}
+use Rattle.state.specs.Sizes.{twoF, startOf, sizeOf, neededInput, neededOutput, maxInput, maxOutput}
+use Rattle.state.specs.Record.{isState, updateLengths}
 use Rattle.asynchro.specs.Calls.{construct, firstLengths}
 use Rattle.frames.specs.Path.{pathAt}
 use Rattle.frames.specs.Places.{placeFrom, allReach}

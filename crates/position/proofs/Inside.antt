@@ -5,9 +5,9 @@ use Prim.Native.Nat.{ℕ}
 use lib.Ieee.{Float}
 use lib.Ieee.Bits.{is-true}
 use Rattle.error.specs.Refusals.{given}
-use Rattle.asynchro.specs.declared.record.State.{State}
-use Rattle.asynchro.specs.Bounds.{isIndex}
-use Rattle.asynchro.specs.Record.{isState}
+use Rattle.state.specs.declared.record.State.{State}
+use Rattle.state.specs.Bounds.{isIndex}
+use Rattle.state.specs.Record.{isState}
 use Rattle.process.specs.Block.{afterBlock, planned}
 use Rattle.process.proofs.Keeps.{block-keeps}
 use Rattle.position.specs.History.{Doubles}

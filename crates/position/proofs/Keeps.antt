@@ -10,10 +10,10 @@ use lib.ListN.{length}
 use lib.Ieee.Fits.{neg-fits, sub-fits, mul-fits, div-fits}
 use Rattle.exact.specs.Doubles.{_*f_, _/f_, count, aboveZero, atLeastOne}
 use Rattle.error.specs.Refusals.{Said, given, refused}
-use Rattle.asynchro.specs.declared.record.State.{State}
-use Rattle.asynchro.specs.Bounds.{isRatio, isChannels}
-use Rattle.asynchro.specs.Sizes.{twoF, startOf}
-use Rattle.asynchro.specs.Record.{pointsIn, maximaHold, isState, updateLengths}
+use Rattle.state.specs.declared.record.State.{State}
+use Rattle.state.specs.Bounds.{isRatio, isChannels}
+use Rattle.state.specs.Sizes.{twoF, startOf}
+use Rattle.state.specs.Record.{pointsIn, maximaHold, isState, updateLengths}
 use Rattle.asynchro.specs.Calls.{endOf, freshState, withFill, filled, firstLengths, construct, relativeHolds, withRatio, applied, setRatio, setRelative, withChunk, chunked, setChunk}
 use Rattle.asynchro.proofs.Keeps.{accepted}
 use Rattle.process.specs.Block.{workHolds, indexAfter, restored, resetting, resetEnd}

@@ -6,8 +6,8 @@ use Prim.Native.Nat.{ℕ}
 use lib.Ieee.{Float}
 use lib.ListN.{length}
 use Rattle.error.specs.Refusals.{Said, given, refused}
-use Rattle.asynchro.specs.declared.record.State.{State}
-use Rattle.asynchro.specs.Record.{isState}
+use Rattle.state.specs.declared.record.State.{State}
+use Rattle.state.specs.Record.{isState}
 use Rattle.asynchro.proofs.Keeps.{ratio-keeps, relative-keeps, chunk-keeps, construct-keeps}
 use Rattle.process.specs.Block.{planned, blockEnd}
 use Rattle.process.proofs.Keeps.{reset-leaves}

@@ -9,8 +9,8 @@ use Rattle.exact.specs.Whole.{Whole, _⊕_, _⊙_}
 use Rattle.exact.specs.Exact.{exact}
 use Rattle.exact.specs.Running.{tri}
 use Rattle.error.specs.Refusals.{Said, given, refused}
-use Rattle.asynchro.specs.declared.record.State.{State}
-use Rattle.asynchro.specs.Record.{stepNow}
+use Rattle.state.specs.declared.record.State.{State}
+use Rattle.state.specs.Record.{stepNow}
 use Rattle.process.specs.declared.Sizes.{Sizes}
 use Rattle.process.specs.Block.{incrementOf, blockOf}
 use Rattle.position.specs.History.{Call, ratio, relative, chunk, block, after}

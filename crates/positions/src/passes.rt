@@ -1,10 +1,10 @@
 // The passes: each a record, its settings, and its blocks.
 use crate::account::Account;
 use asynchro::Count;
-use asynchro::record::Made;
-use asynchro::record::State;
-use asynchro::sizes::FixedAsync;
 use asynchro_fast::PolynomialDegree;
+use state::record::Made;
+use state::record::State;
+use state::sizes::FixedAsync;
 ghost use Prim.Native.Nat.{_≤_};
 
 // A ramp to the one ratio of the first pass.

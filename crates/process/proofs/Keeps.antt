@@ -9,12 +9,12 @@ use borrow.Author.Tests.{le-leb}
 use lib.Ieee.{Float}
 use lib.ListN.{length}
 use Rattle.error.specs.Refusals.{Said, given, refused}
-use Rattle.asynchro.specs.declared.record.State.{State}
-use Rattle.asynchro.specs.Bounds.{isIndex, isChannels, isChunk}
-use Rattle.asynchro.specs.Record.{pointsIn, isState}
-use Rattle.asynchro.proofs.Points.{points-few}
-use Rattle.asynchro.proofs.Start.{start-inside}
-use Rattle.asynchro.proofs.Valid.{join, Ready, tests, valid}
+use Rattle.state.specs.declared.record.State.{State}
+use Rattle.state.specs.Bounds.{isIndex, isChannels, isChunk}
+use Rattle.state.specs.Record.{pointsIn, isState}
+use Rattle.state.proofs.Points.{points-few}
+use Rattle.state.proofs.Start.{start-inside}
+use Rattle.state.proofs.Valid.{join, Ready, tests, valid}
 use Rattle.asynchro.proofs.Keeps.{accepted, update-keeps}
 use Rattle.process.specs.declared.Sizes.{Sizes}
 use Rattle.process.specs.Block.{workHolds, shapeHolds, reachHolds, afterBlock, planned, blockEnd, blockOf, restored, resetting, resetEnd, resetOf}

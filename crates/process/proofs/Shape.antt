@@ -6,13 +6,13 @@ use native.Mathlib.Nat.{mul-le-mul, min-le-right, div-add-mod}
 use native.Mathlib.Omega.{arith}
 use borrow.Author.Tests.{leb-true, eqb-true}
 use lib.Dec.{eqb, leb}
-use Rattle.asynchro.specs.declared.record.State.{State}
-use Rattle.asynchro.specs.declared.sizes.Size.{Size}
-use Rattle.asynchro.specs.Sizes.{framesOf}
-use Rattle.asynchro.specs.Record.{pointsIn, maxInputOf, isState}
-use Rattle.asynchro.proofs.Points.{points-few}
+use Rattle.state.specs.declared.record.State.{State}
+use Rattle.state.specs.declared.sizes.Size.{Size}
+use Rattle.state.specs.Sizes.{framesOf}
+use Rattle.state.specs.Record.{pointsIn, maxInputOf, isState}
+use Rattle.state.proofs.Points.{points-few}
 use Rattle.whole.proofs.Sizes.{both}
-use Rattle.asynchro.proofs.Valid.{max-small, valid}
+use Rattle.state.proofs.Valid.{max-small, valid}
 use Rattle.area.specs.Mask.{maskFits}
 use Rattle.process.specs.Block.{readOf, strideOf, workHolds, shareHolds, shapeHolds}
 

@@ -7,8 +7,6 @@ use crate::setup::is_ready;
 use crate::setup::made_told;
 use crate::setup::mask_of;
 use crate::setup::work_length;
-use asynchro::record::Made;
-use asynchro::record::State;
 use error::Refusal;
 use options::Files;
 use options::Options;
@@ -24,6 +22,8 @@ use printer::bytes_of;
 use printer::samples_of;
 use process::BlockOutcome;
 use process::Ran;
+use state::record::Made;
+use state::record::State;
 
 // The blocks so far, and all frames in and out. `going` is false once the run is to stop, and `good`
 // where that is before the input's end.
@@ -188,7 +188,7 @@ fn logged(t: Totals, s: State, block: u64, index: f64, files: Files) -> Totals {
         block,
         input: s.input as u64,
         output: s.output as u64,
-        step: asynchro::record::step_now(s),
+        step: state::record::step_now(s),
         increment: process::t_ratio_increment(s),
         index,
         frames: t.output,

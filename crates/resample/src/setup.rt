@@ -2,9 +2,6 @@
 use asynchro::Count;
 use asynchro::Done;
 use asynchro::Outcome;
-use asynchro::record::Made;
-use asynchro::record::State;
-use asynchro::sizes::FixedAsync;
 use asynchro_fast::PolynomialDegree;
 use error::Refusal;
 use options::Options;
@@ -13,6 +10,9 @@ use options::say_number;
 use options::say_refused;
 use options::say_start;
 use pass::samples_in;
+use state::record::Made;
+use state::record::State;
+use state::sizes::FixedAsync;
 
 // A record after the changes before a block; `good` is false where one was refused.
 pub struct Changed {
@@ -114,7 +114,7 @@ fn sum(a: usize, b: usize) -> usize {
 // The samples of the working area.
 pub fn work_length(s: State) -> usize {
     let most = number_in(asynchro::input_frames_max(s));
-    let l = asynchro::record::points_in(s);
+    let l = state::record::points_in(s);
     let room = area_length(s.channels, most);
     sum(room, area_length(s.channels, sum(l, l)))
 }

@@ -6,8 +6,8 @@ use native.Mathlib.Nat.{le-of-eq, zero-add}
 use lib.Ieee.{Float}
 use lib.ListN.{length}
 use Rattle.error.specs.Refusals.{Said, given, refused}
-use Rattle.asynchro.specs.declared.record.State.{State}
-use Rattle.asynchro.specs.Record.{pointsIn, stepNow}
+use Rattle.state.specs.declared.record.State.{State}
+use Rattle.state.specs.Record.{pointsIn, stepNow}
 use Rattle.asynchro.proofs.Keeps.{accepted}
 use Rattle.area.specs.Parts.{partOf}
 use Rattle.area.specs.Moves.{movedIn, loadedIn, movedAll}

@@ -12,10 +12,10 @@ use Rattle.whole.specs.Rounded.{madeWhole}
 use Rattle.asynchro_fast.specs.declared.PolynomialDegree.the-variants.{Linear, Septic}
 use Rattle.asynchro_fast.specs.Kernels.{interpOf}
 use Rattle.interpolation.specs.Grid.{gridSaid, pointOf}
-use Rattle.asynchro.specs.declared.sizes.FixedAsync.the-variants.{Input}
-use Rattle.asynchro.specs.declared.record.State.{State}
-use Rattle.asynchro.specs.Sizes.{sizeOf, neededInput, neededOutput, maxInput, maxOutput}
-use Rattle.asynchro.specs.Record.{stepNow, isState, updateLengths}
+use Rattle.state.specs.declared.sizes.FixedAsync.the-variants.{Input}
+use Rattle.state.specs.declared.record.State.{State}
+use Rattle.state.specs.Sizes.{sizeOf, neededInput, neededOutput, maxInput, maxOutput}
+use Rattle.state.specs.Record.{stepNow, isState, updateLengths}
 use Rattle.asynchro.specs.Calls.{construct, firstLengths, setRatio}
 use Rattle.area.specs.Parts.{partsTo, eachPart}
 use Rattle.area.specs.Moves.{moved, loaded}

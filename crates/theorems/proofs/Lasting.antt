@@ -2,8 +2,8 @@
 use mathlib.Core.Bool.{true}
 use mathlib.Core.List.{List}
 use mathlib.Core.Path.{_≡_}
-use Rattle.asynchro.specs.declared.record.State.{State}
-use Rattle.asynchro.specs.Record.{isState}
+use Rattle.state.specs.declared.record.State.{State}
+use Rattle.state.specs.Record.{isState}
 use Rattle.position.specs.History.{Start, Call}
 use Rattle.position.specs.Position.{opened, ledger}
 use Rattle.position.proofs.Lasting.{lasting}

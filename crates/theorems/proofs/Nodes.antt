@@ -6,7 +6,7 @@ use Prim.Native.Nat.{ℕ, _<_}
 use lib.IntN.{ℤ, pos, subℕ, _*ℤ_}
 use lib.ListN.{length}
 use Rattle.asynchro_fast.specs.Nodes.{entry, rowsAt}
-use Rattle.asynchro_fast.specs.Rows.{septicRows, quinticRows}
+use Rattle.rows.specs.Rows.{septicRows, quinticRows}
 use Rattle.asynchro_fast.proofs.Nodes.{septic-node, quintic-node}
 
 pub septic-nodes : (ys : List ℤ) → length ys ≡ 8 → (i : ℕ) → i < 8 → rowsAt septicRows (subℕ i 3) ys ≡ pos 5040 *ℤ entry ys i

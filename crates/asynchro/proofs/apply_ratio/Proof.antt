@@ -5,7 +5,7 @@ use borrow.Author.Tests.{not-true, not-false}
 use borrow.Author.Needs.{needs}
 use Rattle.error.proofs.Ladder.{pass, stop, failed, passed}
 use Rattle.asynchro.specs.Calls.{withRatio}
-use Rattle.asynchro.specs.Record.{updateLengths}
+use Rattle.state.specs.Record.{updateLengths}
 use Rattle.asynchro.proofs.apply_ratio.Statement.{statement}
 use Rattle.asynchro.proofs.apply_ratio.Tie as tie
 

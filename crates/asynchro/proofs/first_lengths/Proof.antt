@@ -3,7 +3,7 @@ use mathlib.Core.Path.{sym, ap, _∙_}
 use borrow.Author.Needs.{needs}
 use Rattle.error.proofs.Ladder.{pass, stop, failed, passed}
 use Rattle.asynchro.specs.Calls.{filled, firstLengths}
-use Rattle.asynchro.specs.Record.{saidMade}
+use Rattle.state.specs.Record.{saidMade}
 use Rattle.asynchro.proofs.first_lengths.Statement.{statement}
 use Rattle.asynchro.proofs.first_lengths.Tie as tie
 

@@ -1,6 +1,6 @@
 -- `process::look` meets its contract. Assumes nothing.
 use borrow.Author.Needs.{needs}
-use Rattle.asynchro.proofs.Valid.{valid}
+use Rattle.state.proofs.Valid.{valid}
 use Rattle.process.proofs.Written.{look-is}
 use Rattle.process.proofs.look.Statement.{statement}
 use Rattle.process.proofs.look.Tie as tie

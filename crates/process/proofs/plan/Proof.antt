@@ -2,7 +2,7 @@
 use mathlib.Core.Path.{ap, _∙_}
 use borrow.Author.Needs.{needs}
 use Rattle.error.proofs.Ladder.{pass, stop, failed, passed}
-use Rattle.asynchro.specs.Record.{updateLengths}
+use Rattle.state.specs.Record.{updateLengths}
 use Rattle.process.specs.Block.{planned}
 use Rattle.process.proofs.plan.Statement.{statement}
 use Rattle.process.proofs.plan.Tie as tie

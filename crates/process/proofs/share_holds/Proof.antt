@@ -1,6 +1,6 @@
 -- `process::share_holds` meets its contract: there is a channel. Assumes nothing.
 use borrow.Author.Needs.{needs}
-use Rattle.asynchro.proofs.Valid.{valid}
+use Rattle.state.proofs.Valid.{valid}
 use Rattle.process.proofs.share_holds.Statement.{statement}
 use Rattle.process.proofs.share_holds.Tie as tie
 

@@ -1,7 +1,7 @@
 -- `process::stride_of` meets its contract: a maximum and the points are small. Assumes nothing.
 use native.Mathlib.Omega.{arith}
 use borrow.Author.Needs.{needs}
-use Rattle.asynchro.proofs.Points.{points-few}
+use Rattle.state.proofs.Points.{points-few}
 use Rattle.process.proofs.Shape.{stride-small, stride-is}
 use Rattle.process.proofs.stride_of.Statement.{statement}
 use Rattle.process.proofs.stride_of.Tie as tie

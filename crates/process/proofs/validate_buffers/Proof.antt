@@ -1,7 +1,7 @@
 -- `process::validate_buffers` meets its contract. Assumes nothing.
 use native.Mathlib.Omega.{arith}
 use borrow.Author.Needs.{needs}
-use Rattle.asynchro.proofs.Valid.{valid}
+use Rattle.state.proofs.Valid.{valid}
 use Rattle.process.proofs.Shape.{shape-is}
 use Rattle.process.proofs.validate_buffers.Statement.{statement}
 use Rattle.process.proofs.validate_buffers.Tie as tie

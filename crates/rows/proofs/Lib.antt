@@ -1,0 +1,2 @@
+-- Laws of the rows. Assumes nothing.
+pub mod Laws

@@ -1,0 +1,2 @@
+-- The rows of the two kernels that have them. Definitions only.
+pub mod Rows

@@ -1,0 +1,164 @@
+-- What a record that passes the StateRecord test is known to be. Assumes nothing.
+use mathlib.Core.Bool.{Bool, true, false, _&&_, false≢true}
+use mathlib.Core.Path.{_≡_, refl, ap}
+use Prim.Native.Nat.{ℕ, _*_, _/_, _≤_}
+use native.Mathlib.Nat.{le-trans}
+use borrow.Author.Tests.{leb-true, eqb-true}
+use lib.Dec.{leb, lit≤}
+use lib.Ieee.{Float, nan, inf, fin, up, down}
+use Rattle.exact.specs.Doubles.{_+f_, _*f_, _/f_, count, atLeastOne}
+use Rattle.whole.specs.Rounded.{ceilOf}
+use Rattle.whole.proofs.Sizes.{both}
+use Rattle.state.specs.declared.sizes.FixedAsync.{FixedAsync}
+use Rattle.state.specs.declared.sizes.FixedAsync.the-variants.{Input, Output}
+use Rattle.state.specs.declared.sizes.Size.{Size}
+use Rattle.state.specs.declared.sizes.Size.the-variants.{Frames, TooLarge}
+use Rattle.state.specs.declared.record.State.{State}
+use Rattle.state.specs.Bounds.{isRatio, isChannels, isChunk, isSize, isIndex}
+use Rattle.state.specs.Sizes.{twoF, sized, sizeOf, sizeOfCount, inputFloat, outputFloat, neededInput, neededOutput, maxInput, isFrames, framesOf, sizeIs, sizeHolds}
+use Rattle.state.specs.Record.{pointsIn, stepNow, stepThen, inputOf, outputOf, maxInputOf, maxOutputOf, countsHold, ratiosHold, maximaHold, sizesHold, isState}
+
+-- two tests joined
+pub join : {a b : Bool} → a ≡ true → b ≡ true → (a && b) ≡ true
+join {a} {b} h k = rw (h, k)
+
+-- ---- a size is at most 65,536
+counted-small : (b : Bool) (n : ℕ) → isSize n ≡ b → framesOf (sized b n) ≤ 65536
+counted-small true n h = leb-true n 65536 h
+counted-small false n h = lit≤ tt
+
+pub count-small : (n : ℕ) → framesOf (sizeOfCount n) ≤ 65536
+count-small n = counted-small (isSize n) n refl
+
+pub size-small : (x : Float) → framesOf (sizeOf x) ≤ 65536
+unfolding sizeOf
+size-small nan = lit≤ tt
+size-small (inf true) = lit≤ tt
+size-small (inf false) = lit≤ tt
+size-small (fin true m e) = lit≤ tt
+size-small (fin false m e) = count-small (m * up e / down e)
+
+pub input-small : (f : FixedAsync) (l c : ℕ) (i t1 t2 : Float) → framesOf (neededInput f l c i t1 t2) ≤ 65536
+unfolding neededInput
+input-small Input l c i t1 t2 = count-small c
+input-small Output l c i t1 t2 = size-small (inputFloat l c i t1 t2)
+
+pub output-small : (f : FixedAsync) (l c : ℕ) (i t1 t2 : Float) → framesOf (neededOutput f l c i t1 t2) ≤ 65536
+unfolding neededOutput
+output-small Input l c i t1 t2 = size-small (outputFloat l c i t1 t2)
+output-small Output l c i t1 t2 = count-small c
+
+pub max-small : (f : FixedAsync) (l c0 : ℕ) (r0 m : Float) → framesOf (maxInput f l c0 r0 m) ≤ 65536
+unfolding maxInput
+max-small Input l c0 r0 m = count-small c0
+max-small Output l c0 r0 m = size-small (ceilOf (count c0 /f r0 *f m) +f twoF +f count (l / 2))
+
+-- ---- reading a size
+pub size-is : (z : Size) (n : ℕ) → sizeIs z n ≡ true → z ≡ Frames n
+size-is (Frames k) n h = ap Frames (eqb-true k n h)
+size-is TooLarge n h = absurd (false≢true h)
+
+pub size-holds : (z : Size) (n : ℕ) → sizeHolds z n ≡ true → n ≤ framesOf z
+size-holds (Frames k) n h = leb-true n k h
+size-holds TooLarge n h = absurd (false≢true h)
+
+pub is-frames : (z : Size) → isFrames z ≡ true → z ≡ Frames (framesOf z)
+is-frames (Frames k) h = refl
+is-frames TooLarge h = absurd (false≢true h)
+
+-- ---- the parts of the test: all but the needed sizes, and these
+pub record Ready (s : State) : Type 0 where
+  pub counts : countsHold s ≡ true
+  pub ratios : ratiosHold s ≡ true
+  pub maxima : maximaHold s ≡ true
+  pub fill : sizeHolds (maxInputOf s) (s .fill) ≡ true
+  pub index : isIndex (s .index) ≡ true
+
+pub record Needed (s : State) : Type 0 where
+  pub input : sizeIs (inputOf s) (s .input) ≡ true
+  pub output : sizeIs (outputOf s) (s .output) ≡ true
+  pub input-most : sizeHolds (maxInputOf s) (s .input) ≡ true
+
+pub tests : (s : State) → isState s ≡ true → Ready s × Needed s
+unfolding isState
+tests s h =
+    let all3 = both _ _ h in
+    let all2 = both _ _ (all3 .0) in
+    let all1 = both (countsHold s && ratiosHold s) (maximaHold s) (all2 .0) in
+    let all0 = both (countsHold s) (ratiosHold s) (all1 .0) in
+    let z2 = both _ _ (all2 .1) in
+    let z1 = both _ _ (z2 .0) in
+    let z0 = both (sizeIs (inputOf s) (s .input)) (sizeIs (outputOf s) (s .output)) (z1 .0) in (
+      record { counts = all0 .0; ratios = all0 .1; maxima = all1 .1; fill = z2 .1; index = all3 .1 },
+      record { input = z0 .0; output = z0 .1; input-most = z1 .1 },
+    )
+
+pub passes : (s : State) → Ready s → Needed s → isState s ≡ true
+unfolding isState
+passes s r n =
+    let sizes : sizesHold s ≡ true = join (join (join (n .input) (n .output)) (n .input-most)) (r .fill) in
+    join (join (join (join (r .counts) (r .ratios)) (r .maxima)) sizes) (r .index)
+
+-- ---- what the test tells
+pub record Valid (s : State) : Type 0 where
+  pub channels-some : 1 ≤ s .channels
+  pub channels-few : s .channels ≤ 16
+  pub chunk-some : 1 ≤ s .chunk
+  pub chunk-most : s .chunk ≤ s .chunk0
+  pub chunk0-few : s .chunk0 ≤ 65536
+  pub original-ratio : isRatio (s .original) ≡ true
+  pub current-ratio : isRatio (s .current) ≡ true
+  pub target-ratio : isRatio (s .target) ≡ true
+  pub m-holds : atLeastOne (s .m) ≡ true
+  pub input-is : inputOf s ≡ Frames (s .input)
+  pub output-is : outputOf s ≡ Frames (s .output)
+  pub max-input-is : maxInputOf s ≡ Frames (framesOf (maxInputOf s))
+  pub max-output-is : maxOutputOf s ≡ Frames (framesOf (maxOutputOf s))
+  pub max-input-few : framesOf (maxInputOf s) ≤ 65536
+  pub input-most : s .input ≤ framesOf (maxInputOf s)
+  pub fill-most : s .fill ≤ framesOf (maxInputOf s)
+  pub input-few : s .input ≤ 65536
+  pub output-few : s .output ≤ 65536
+  pub fill-few : s .fill ≤ 65536
+  pub index-inside : isIndex (s .index) ≡ true
+
+pub valid : (s : State) → isState s ≡ true → Valid s
+valid s h =
+    let r = tests s h .0 in
+    let n = tests s h .1 in
+    let n2 = both _ _ (r .counts) in
+    let n1 = both _ _ (n2 .0) in
+    let n0 = both (isChannels (s .channels)) (isChunk (s .chunk)) (n1 .0) in
+    let channels = both (leb 1 (s .channels)) (leb (s .channels) 16) (n0 .0) in
+    let chunk = both (leb 1 (s .chunk)) (isSize (s .chunk)) (n0 .1) in
+    let chunk0 = both (leb 1 (s .chunk0)) (isSize (s .chunk0)) (n1 .1) in
+    let r2 = both _ _ (r .ratios) in
+    let r1 = both _ _ (r2 .0) in
+    let r0 = both (isRatio (s .original)) (isRatio (s .current)) (r1 .0) in
+    let x = both (isFrames (maxInputOf s)) (isFrames (maxOutputOf s)) (r .maxima) in
+    let input = size-is (inputOf s) (s .input) (n .input) in
+    let output = size-is (outputOf s) (s .output) (n .output) in
+    let most = max-small (s .fixed) (pointsIn s) (s .chunk0) (s .original) (s .m) in
+    let fill = size-holds (maxInputOf s) (s .fill) (r .fill) in
+    record {
+      channels-some = leb-true 1 (s .channels) (channels .0);
+      channels-few = leb-true (s .channels) 16 (channels .1);
+      chunk-some = leb-true 1 (s .chunk) (chunk .0);
+      chunk-most = leb-true (s .chunk) (s .chunk0) (n2 .1);
+      chunk0-few = leb-true (s .chunk0) 65536 (chunk0 .1);
+      original-ratio = r0 .0;
+      current-ratio = r0 .1;
+      target-ratio = r1 .1;
+      m-holds = r2 .1;
+      input-is = input;
+      output-is = output;
+      max-input-is = is-frames (maxInputOf s) (x .0);
+      max-output-is = is-frames (maxOutputOf s) (x .1);
+      max-input-few = most;
+      input-most = size-holds (maxInputOf s) (s .input) (n .input-most);
+      fill-most = fill;
+      input-few = rw input at (input-small (s .fixed) (pointsIn s) (s .chunk) (s .index) (stepNow s) (stepThen s));
+      output-few = rw output at (output-small (s .fixed) (pointsIn s) (s .chunk) (s .index) (stepNow s) (stepThen s));
+      fill-few = le-trans fill most;
+      index-inside = r .index;
+    }

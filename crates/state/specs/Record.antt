@@ -1,0 +1,81 @@
+-- The state record: its sizes, the StateRecord test, and the one end of every call. Definitions only.
+use mathlib.Core.Bool.{Bool, _&&_}
+use mathlib.Core.List.{[]}
+use Prim.Native.Nat.{ℕ}
+use lib.Dec.{leb}
+use lib.Ieee.{Float}
+use Rattle.exact.specs.Doubles.{_/f_, oneF, atLeastOne}
+use Rattle.error.specs.Refusals.{Said, given, refused, unless, numberOf, valuesOf}
+use Rattle.asynchro_fast.specs.Degrees.{pointsOf}
+use Rattle.state.specs.declared.record.State.{State}
+use Rattle.state.specs.declared.sizes.Size.{Size}
+use Rattle.state.specs.declared.record.Made.{Made}
+use Rattle.state.specs.declared.record.Made.the-variants as made
+use Rattle.state.specs.Bounds.{isRatio, isChannels, isChunk, isIndex}
+use Rattle.state.specs.Sizes.{neededInput, neededOutput, maxInput, maxOutput, isFrames, framesOf, sizeIs, sizeHolds}
+
+-- the points L of a record, and its steps: the only places that divide 1 by a ratio
+abbrev pub pointsIn : State → ℕ
+pointsIn s = pointsOf (s .degree)
+
+abbrev pub stepNow : State → Float
+stepNow s = oneF /f s .current
+
+abbrev pub stepThen : State → Float
+stepThen s = oneF /f s .target
+
+-- the sizes by the formulas
+abbrev pub inputOf : State → Size
+inputOf s = neededInput (s .fixed) (pointsIn s) (s .chunk) (s .index) (stepNow s) (stepThen s)
+
+abbrev pub outputOf : State → Size
+outputOf s = neededOutput (s .fixed) (pointsIn s) (s .chunk) (s .index) (stepNow s) (stepThen s)
+
+abbrev pub maxInputOf : State → Size
+maxInputOf s = maxInput (s .fixed) (pointsIn s) (s .chunk0) (s .original) (s .m)
+
+abbrev pub maxOutputOf : State → Size
+maxOutputOf s = maxOutput (s .fixed) (s .chunk0) (s .original) (s .m)
+
+-- Document 01, "StateRecord asks", in its order: ..
+-- "channels, chunk and construction chunk within bounds and chunk at most the latter"
+abbrev pub countsHold : State → Bool
+countsHold s = isChannels (s .channels) && isChunk (s .chunk) && isChunk (s .chunk0) && leb (s .chunk) (s .chunk0)
+
+-- "original, current and target ratio within bounds; m finite and at least 1"
+abbrev pub ratiosHold : State → Bool
+ratiosHold s = isRatio (s .original) && isRatio (s .current) && isRatio (s .target) && atLeastOne (s .m)
+
+-- "maximum sizes at most 65,536"
+abbrev pub maximaHold : State → Bool
+maximaHold s = isFrames (maxInputOf s) && isFrames (maxOutputOf s)
+
+-- "needed sizes equal to the formulas below and within refusal 6's bounds; fill at most maximum input"
+abbrev pub sizesHold : State → Bool
+sizesHold s = sizeIs (inputOf s) (s .input) && sizeIs (outputOf s) (s .output) && sizeHolds (maxInputOf s) (s .input) && sizeHolds (maxInputOf s) (s .fill)
+
+-- "index finite and strictly between -2^17 and 2^17"
+unfoldable pub isState : State → Bool
+isState s = countsHold s && ratiosHold s && maximaHold s && sizesHold s && isIndex (s .index)
+
+-- a record with other values of the fields that calls change; the others never change
+abbrev pub changed : State → ℕ → ℕ → ℕ → ℕ → Float → Float → Float → State
+changed s chunk input output fill index current target =
+    record { channels = s .channels; chunk = chunk; chunk0 = s .chunk0; input = input; output = output; fill = fill; index = index; original = s .original; current = current; target = target; m = s .m; degree = s .degree; fixed = s .fixed }
+
+abbrev pub withSizes : State → ℕ → ℕ → State
+withSizes s i o = changed s (s .chunk) i o (s .fill) (s .index) (s .current) (s .target)
+
+-- The end of every call: "sizes are worked out again"; refusal 6: "a size the call would leave exceeds 65,536, or needed input exceeds maximum input".
+unfoldable pub updateLengths : State → Said State
+unfolding unless
+updateLengths s =
+    unless (isFrames (inputOf s)) 6 []
+    (unless (isFrames (outputOf s)) 6 []
+    (unless (sizeHolds (maxInputOf s) (framesOf (inputOf s))) 6 []
+    (given (withSizes s (framesOf (inputOf s)) (framesOf (outputOf s))))))
+
+-- its answer in document 01's words
+abbrev pub saidMade : Made → Said State
+saidMade (made.Ready s) = given s
+saidMade (made.Refused r) = refused (numberOf r) (valuesOf r)
