@@ -8,6 +8,7 @@ use native.Mathlib.Omega.{arith}
 use lib.Dec.{T, eqb, ltb→lt, lt→ltb, eqb→eq}
 use lib.Ieee.{Float, nan, inf, fin, Format, low, up, down, below, level, lt, eq, le}
 use lib.Ieee.Fits.{down-pos, and-i, and-l, and-r, eq→eqb}
+use lib.IntN.{ℤ}
 use lib.Pow.{pow-pos}
 use Rattle.exact.specs.Whole.{signed, Same, Less, AtMost}
 use Rattle.exact.specs.Exact.{mag, exact, Number}
@@ -51,6 +52,13 @@ module _ (A B L a b c : ℕ) (P : 0 < L) (C : 0 < c) (p : A * L ≡ a * c) (q : 
   →level false true h = and-i (eqb A B) (eqb A 0) (eq→eqb (→equal (omega arith))) (eq→eqb (→zero (omega arith)))
   →level true false h = and-i (eqb A B) (eqb A 0) (eq→eqb (→equal (omega arith))) (eq→eqb (→zero (omega arith)))
 
+-- two finite numbers as A / c and B / c, which are their sizes in units of 1 / L: what holds of all such holds of them
+module _ (f : Format) (s t : Bool) (m n : ℕ) (e d : ℤ) (p : Number f (fin s m e)) (q : Number f (fin t n d)) where
+  in-units : (R : ℕ → ℕ → ℕ → ℕ → Type 0) → ((A B L a b c : ℕ) → 0 < L → 0 < c → A * L ≡ a * c → B * L ≡ b * c → R A B a b)
+      → R (m * up e * down d) (n * up d * down e) (mag f (fin s m e)) (mag f (fin t n d))
+  in-units R law =
+      law _ _ (2 ^ low f) _ _ (down e * down d) (pow-pos (low f)) (mul-pos (down-pos e) (down-pos d)) (over-l f s m e d (p .1)) (over-r f t n d e (q .1))
+
 pub lt-exact : (f : Format) (x y : Float) → Number f x → Number f y → T (lt x y) ↔ Less (exact f x) (exact f y)
 unfolding lt exact
 lt-exact f nan y p q = absurd (p .0)
@@ -58,16 +66,7 @@ lt-exact f (inf s) y p q = absurd (p .0)
 lt-exact f (fin s m e) nan p q = absurd (q .0)
 lt-exact f (fin s m e) (inf t) p q = absurd (q .0)
 lt-exact f (fin s m e) (fin t n d) p q =
-    let A = m * up e * down d in
-    let B = n * up d * down e in
-    let L = 2 ^ low f in
-    let a = mag f (fin s m e) in
-    let b = mag f (fin t n d) in
-    let c = down e * down d in
-    let C = mul-pos (down-pos e) (down-pos d) in
-    let u = over-l f s m e d (p .1) in
-    let v = over-r f t n d e (q .1) in
-    (below→ A B L a b c (pow-pos (low f)) C u v s t, →below A B L a b c (pow-pos (low f)) C u v s t)
+    in-units f s t m n e d p q (λ A B a b. T (below s A t B) ↔ Less (signed s a) (signed t b)) (λ A B L a b c P C u v. (below→ A B L a b c P C u v s t, →below A B L a b c P C u v s t))
 
 pub eq-exact : (f : Format) (x y : Float) → Number f x → Number f y → T (eq x y) ↔ Same (exact f x) (exact f y)
 unfolding eq exact
@@ -76,16 +75,7 @@ eq-exact f (inf s) y p q = absurd (p .0)
 eq-exact f (fin s m e) nan p q = absurd (q .0)
 eq-exact f (fin s m e) (inf t) p q = absurd (q .0)
 eq-exact f (fin s m e) (fin t n d) p q =
-    let A = m * up e * down d in
-    let B = n * up d * down e in
-    let L = 2 ^ low f in
-    let a = mag f (fin s m e) in
-    let b = mag f (fin t n d) in
-    let c = down e * down d in
-    let C = mul-pos (down-pos e) (down-pos d) in
-    let u = over-l f s m e d (p .1) in
-    let v = over-r f t n d e (q .1) in
-    (level→ A B L a b c (pow-pos (low f)) C u v s t, →level A B L a b c (pow-pos (low f)) C u v s t)
+    in-units f s t m n e d p q (λ A B a b. T (level s A t B) ↔ Same (signed s a) (signed t b)) (λ A B L a b c P C u v. (level→ A B L a b c P C u v s t, →level A B L a b c P C u v s t))
 
 or-elim : {P : Type 0} (a b : Bool) → (T a → P) → (T b → P) → T (a || b) → P
 or-elim true b f g t = f tt

@@ -83,37 +83,31 @@ next-is P s m e n t h p =
     let v = next-value binary64 s m e n t h in
     (whole-number s n v, subst P (sym (whole-exact s n v)) p)
 
+-- the whole number next to x toward zero, and away from it
+module _ (P : Whole → Type 0) (s : Bool) (m : ℕ) (e : ℤ) (t : T (fits binary64 (fin s m e))) where
+  part-is : ((partDiv (m * up e) (down e) * 2 ^ low binary64 ≤ mag binary64 (fin s m e)) × (mag binary64 (fin s m e) < partDiv (m * up e) (down e) * 2 ^ low binary64 + 2 ^ low binary64) → P (signed s (partDiv (m * up e) (down e) * 2 ^ low binary64)))
+      → Number binary64 (wholeF s (partDiv (m * up e) (down e))) × P (exact binary64 (wholeF s (partDiv (m * up e) (down e))))
+  part-is k = next-is P s m e (partDiv (m * up e) (down e)) t (part-next (m * up e) (down e)) (k (part-bounds (shared binary64 s m e t)))
+
+  over-is : ((mag binary64 (fin s m e) ≤ overDiv (m * up e) (down e) * 2 ^ low binary64) × (overDiv (m * up e) (down e) * 2 ^ low binary64 < mag binary64 (fin s m e) + 2 ^ low binary64) → P (signed s (overDiv (m * up e) (down e) * 2 ^ low binary64)))
+      → Number binary64 (wholeF s (overDiv (m * up e) (down e))) × P (exact binary64 (wholeF s (overDiv (m * up e) (down e))))
+  over-is k = next-is P s m e (overDiv (m * up e) (down e)) t (over-next (m * up e) (down e)) (k (over-bounds (shared binary64 s m e t)))
+
 -- the greatest whole number not above x
 pub floor-greatest : (x : Float) → Number binary64 x → Number binary64 (floorOf x) × Greatest (2 ^ low binary64) (exact binary64 x) (exact binary64 (floorOf x))
 unfolding madeWhole exact
 floor-greatest nan t = absurd (t .0)
 floor-greatest (inf s) t = absurd (t .0)
-floor-greatest (fin false m e) t =
-    let x = fin false m e in
-    let n = partDiv (m * up e) (down e) in
-    next-is (Greatest (2 ^ low binary64) (exact binary64 x)) false m e n (t .1) (part-next (m * up e) (down e))
-    (down-plain (2 ^ low binary64) (mag binary64 x) n (part-bounds (shared binary64 false m e (t .1))))
-floor-greatest (fin true m e) t =
-    let x = fin true m e in
-    let n = overDiv (m * up e) (down e) in
-    next-is (Greatest (2 ^ low binary64) (exact binary64 x)) true m e n (t .1) (over-next (m * up e) (down e))
-    (down-minus (2 ^ low binary64) (mag binary64 x) n (over-bounds (shared binary64 true m e (t .1))))
+floor-greatest (fin false m e) t = part-is (Greatest (2 ^ low binary64) (exact binary64 (fin false m e))) false m e (t .1) (down-plain _ _ _)
+floor-greatest (fin true m e) t = over-is (Greatest (2 ^ low binary64) (exact binary64 (fin true m e))) true m e (t .1) (down-minus _ _ _)
 
 -- the least whole number not below x
 pub ceil-least : (x : Float) → Number binary64 x → Number binary64 (ceilOf x) × Least (2 ^ low binary64) (exact binary64 x) (exact binary64 (ceilOf x))
 unfolding madeWhole exact
 ceil-least nan t = absurd (t .0)
 ceil-least (inf s) t = absurd (t .0)
-ceil-least (fin false m e) t =
-    let x = fin false m e in
-    let n = overDiv (m * up e) (down e) in
-    next-is (Least (2 ^ low binary64) (exact binary64 x)) false m e n (t .1) (over-next (m * up e) (down e))
-    (up-plain (2 ^ low binary64) (mag binary64 x) n (over-bounds (shared binary64 false m e (t .1))))
-ceil-least (fin true m e) t =
-    let x = fin true m e in
-    let n = partDiv (m * up e) (down e) in
-    next-is (Least (2 ^ low binary64) (exact binary64 x)) true m e n (t .1) (part-next (m * up e) (down e))
-    (up-minus (2 ^ low binary64) (mag binary64 x) n (part-bounds (shared binary64 true m e (t .1))))
+ceil-least (fin false m e) t = over-is (Least (2 ^ low binary64) (exact binary64 (fin false m e))) false m e (t .1) (up-plain _ _ _)
+ceil-least (fin true m e) t = part-is (Least (2 ^ low binary64) (exact binary64 (fin true m e))) true m e (t .1) (up-minus _ _ _)
 
 -- toward zero, with the sign of x
 pub trunc-toward : (x : Float) → Number binary64 x → Number binary64 (truncOf x) × Toward (2 ^ low binary64) (exact binary64 x) (exact binary64 (truncOf x))
@@ -122,10 +116,8 @@ trunc-toward nan t = absurd (t .0)
 trunc-toward (inf s) t = absurd (t .0)
 trunc-toward (fin s m e) t =
     let x = fin s m e in
-    let n = partDiv (m * up e) (down e) in
-    let h = part-bounds (shared binary64 s m e (t .1)) in
-    next-is (Toward (2 ^ low binary64) (exact binary64 x)) s m e n (t .1) (part-next (m * up e) (down e))
-    (record { sign = s; size = mag binary64 x; ones = n; from = refl; to = refl; atMost = h .0; near = h .1 })
+    part-is (Toward (2 ^ low binary64) (exact binary64 x)) s m e (t .1)
+    (λ h. record { sign = s; size = mag binary64 x; ones = partDiv (m * up e) (down e); from = refl; to = refl; atMost = h .0; near = h .1 })
 
 -- the nearest, a half away from zero
 pub round-nearest : (x : Float) → Number binary64 x → Number binary64 (roundOf x) × Nearest (2 ^ low binary64) (exact binary64 x) (exact binary64 (roundOf x))
