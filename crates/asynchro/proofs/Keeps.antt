@@ -10,47 +10,23 @@ use lib.Dec.{leb}
 use lib.Ieee.{Float}
 use Rattle.exact.specs.Doubles.{aboveZero, atLeastOne, _*f_, _/f_}
 use Rattle.error.specs.Refusals.{Said, given, refused, unless}
+use Rattle.error.proofs.Ladder.{accepted, same-given}
 use Rattle.whole.proofs.Sizes.{both}
 use Rattle.asynchro_fast.specs.declared.PolynomialDegree.{PolynomialDegree}
 use Rattle.asynchro_fast.specs.Degrees.{pointsOf}
-use Rattle.state.specs.declared.sizes.FixedAsync.{FixedAsync}
-use Rattle.state.specs.declared.sizes.FixedAsync.the-variants.{Input, Output}
-use Rattle.state.specs.declared.sizes.Size.{Size}
-use Rattle.state.specs.declared.sizes.Size.the-variants.{Frames, TooLarge}
-use Rattle.state.specs.declared.record.State.{State}
-use Rattle.state.specs.Bounds.{isRatio, isChannels, isChunk, isSize}
-use Rattle.state.specs.Sizes.{sized, maxInput, maxOutput, isFrames, framesOf, sizeIs, sizeHolds}
+use Rattle.sizes.specs.declared.FixedAsync.{FixedAsync}
+use Rattle.sizes.specs.declared.FixedAsync.the-variants.{Input, Output}
+use Rattle.sizes.specs.declared.Size.{Size}
+use Rattle.sizes.specs.declared.Size.the-variants.{Frames, TooLarge}
+use Rattle.state.specs.declared.State.{State}
+use Rattle.sizes.specs.Bounds.{isRatio, isChannels, isChunk, isSize}
+use Rattle.sizes.specs.Sizes.{sized, maxInput, maxOutput, isFrames, framesOf, sizeIs, sizeHolds}
 use Rattle.state.specs.Record.{inputOf, outputOf, maxInputOf, maxOutputOf, countsHold, maximaHold, isState, withSizes, updateLengths}
 use Rattle.asynchro.specs.Calls.{endOf, freshState, withFill, filled, firstLengths, construct, relativeHolds, withRatio, applied, setRatio, setRelative, withChunk, chunked, setChunk}
 use Rattle.state.proofs.Points.{points-between}
-use Rattle.state.proofs.Start.{start-inside}
-use Rattle.state.proofs.Valid.{join, Ready, Needed, tests, passes, valid}
-
--- a ladder that gives passed its test, and went on
-pub accepted : {A : Type 0} (b : Bool) (n : ℕ) (vs : List Float) (next : Said A) (a : A) → unless b n vs next ≡ given a → (b ≡ true) × (next ≡ given a)
-unfolding unless
-accepted true n vs next a e = (refl, e)
-accepted false n vs next a e = absurd (let z : _≡_ {A = ℕ} 0 1 = cc in omega arith)
-
-same-given : {A : Type 0} (a b : A) → given a ≡ given b → a ≡ b
-same-given a b e = cc
-
--- a size that was worked out is the number that is written down
-own-size : (z : Size) → isFrames z ≡ true → sizeIs z (framesOf z) ≡ true
-own-size (Frames n) h = eq-eqb n n refl
-own-size TooLarge h = h
-
--- ---- one law for every call: all of the test but the needed sizes, which the call's end works out
-pub update-keeps : (s t : State) → Ready s → updateLengths s ≡ given t → isState t ≡ true
-unfolding updateLengths
-update-keeps s t r e =
-    let a = accepted (isFrames (inputOf s)) _ _ _ t e in
-    let b = accepted (isFrames (outputOf s)) _ _ _ t (a .1) in
-    let c = accepted (sizeHolds (maxInputOf s) (framesOf (inputOf s))) _ _ _ t (b .1) in
-    let z = withSizes s (framesOf (inputOf s)) (framesOf (outputOf s)) in
-    let ready : Ready z = record { counts = r .counts; ratios = r .ratios; maxima = r .maxima; fill = r .fill; index = r .index } in
-    let needed : Needed z = record { input = own-size (inputOf s) (a .0); output = own-size (outputOf s) (b .0); input-most = c .0 } in
-    subst (λ (y : State). isState y ≡ true) (same-given z t (c .1)) (passes z ready needed)
+use Rattle.sizes.proofs.Start.{start-inside}
+use Rattle.state.proofs.Keeps.{update-keeps}
+use Rattle.state.proofs.Valid.{join, Ready, tests, passes, valid}
 
 -- a call that ends so keeps the test: on a refusal the record is the one given
 pub end-keeps : (s : State) (d : Said State) → isState s ≡ true → ((t : State) → d ≡ given t → isState t ≡ true) → isState (endOf s d .state) ≡ true

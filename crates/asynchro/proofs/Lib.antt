@@ -1,4 +1,3 @@
 -- Laws of the calls on a ratio state. Assumes nothing.
 pub mod Keeps
 pub mod Settled
-pub mod Bench

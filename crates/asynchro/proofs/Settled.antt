@@ -1,18 +1,15 @@
 -- What is said in document 01's words settles the answer. Assumes nothing.
 use mathlib.Core.Path.{_≡_, refl, ap}
-use Prim.Native.Nat.{ℕ}
 use Rattle.error.specs.Refusals.{Said, given, refused}
 use Rattle.error.proofs.Settled.{refusalOf, refusal-back, settled}
-use Rattle.state.specs.declared.record.State.{State}
-use Rattle.state.specs.declared.record.Made.{Made}
-use Rattle.state.specs.declared.record.Made.the-variants as made
+use Rattle.state.specs.declared.State.{State}
+use Rattle.state.specs.declared.Made.{Made}
+use Rattle.state.specs.declared.Made.the-variants as made
 use Rattle.asynchro.specs.declared.Done.{Done}
 use Rattle.asynchro.specs.declared.Done.the-variants as done
-use Rattle.asynchro.specs.declared.Count.{Count}
-use Rattle.asynchro.specs.declared.Count.the-variants as counted
 use Rattle.asynchro.specs.declared.Outcome.{Outcome}
 use Rattle.state.specs.Record.{saidMade}
-use Rattle.asynchro.specs.Calls.{Result, saidDone, saidCount, resultOf}
+use Rattle.asynchro.specs.Calls.{Result, saidDone, resultOf}
 
 madeOf : Said State → Made
 madeOf (given s) = made.Ready s
@@ -37,18 +34,6 @@ done-back (done.Refused r) = ap done.Refused (refusal-back r)
 
 pub done-settled : (a b : Done) → saidDone a ≡ saidDone b → a ≡ b
 done-settled = settled saidDone doneOf done-back
-
-countOf : Said ℕ → Count
-countOf (given n) = counted.Number n
-countOf (refused n vs) = counted.Refused (refusalOf n vs)
-
-count-back : (a : Count) → countOf (saidCount a) ≡ a
-unfolding countOf
-count-back (counted.Number n) = refl
-count-back (counted.Refused r) = ap counted.Refused (refusal-back r)
-
-pub count-settled : (a b : Count) → saidCount a ≡ saidCount b → a ≡ b
-count-settled = settled saidCount countOf count-back
 
 outcomeOf : Result Unit → Outcome
 outcomeOf r = record { state = r .state; answer = doneOf (r .said) }

@@ -8,15 +8,13 @@ use Rattle.exact.specs.Doubles.{_*f_, _/f_, oneF, aboveZero, atLeastOne}
 use Rattle.error.specs.Refusals.{Said, given, refused, unless, numberOf, valuesOf}
 use Rattle.asynchro_fast.specs.declared.PolynomialDegree.{PolynomialDegree}
 use Rattle.asynchro_fast.specs.Degrees.{pointsOf}
-use Rattle.state.specs.declared.sizes.FixedAsync.{FixedAsync}
-use Rattle.state.specs.declared.record.State.{State}
+use Rattle.sizes.specs.declared.FixedAsync.{FixedAsync}
+use Rattle.state.specs.declared.State.{State}
 use Rattle.asynchro.specs.declared.Done.{Done}
 use Rattle.asynchro.specs.declared.Done.the-variants as done
-use Rattle.asynchro.specs.declared.Count.{Count}
-use Rattle.asynchro.specs.declared.Count.the-variants as counted
 use Rattle.asynchro.specs.declared.Outcome.{Outcome}
-use Rattle.state.specs.Bounds.{isRatio, isChannels}
-use Rattle.state.specs.Sizes.{startOf}
+use Rattle.sizes.specs.Bounds.{isRatio, isChannels}
+use Rattle.sizes.specs.Sizes.{startOf}
 use Rattle.state.specs.Record.{maximaHold, isState, changed, updateLengths}
 
 -- What a call on a record leaves: the record, and what it says.
@@ -97,18 +95,10 @@ chunked s n =
 abbrev pub setChunk : State → ℕ → Result Unit
 setChunk s n = endOf s (chunked s n)
 
--- ---- questions: 10 only
-abbrev pub asked : {A : Type 0} → State → A → Said A
-asked s a = unless (isState s) 10 [] (given a)
-
 -- ---- the answers in document 01's words
 abbrev pub saidDone : Done → Said Unit
 saidDone done.Accepted = given tt
 saidDone (done.Refused r) = refused (numberOf r) (valuesOf r)
-
-abbrev pub saidCount : Count → Said ℕ
-saidCount (counted.Number n) = given n
-saidCount (counted.Refused r) = refused (numberOf r) (valuesOf r)
 
 abbrev pub resultOf : Outcome → Result Unit
 resultOf o = record { state = o .state; said = saidDone (o .answer) }

@@ -1,2 +1,2 @@
--- The calls on a ratio state: construction, settings and questions. Definitions only.
+-- The calls on a ratio state: construction and settings. Definitions only.
 pub mod Calls

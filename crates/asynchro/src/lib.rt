@@ -1,18 +1,14 @@
-// The ratio state: construction, settings and questions. Document 01: "The ratio state", "Ratio
+// The ratio state: construction and settings. Document 01: "The ratio state", "Ratio
 // changes", "Refusal numbers".
 use asynchro_fast::PolynomialDegree;
-use error::Answer;
 use error::Refusal;
-use state::record::Made;
-use state::record::State;
-use state::sizes::FixedAsync;
+use state::Made;
+use state::State;
+use sizes::FixedAsync;
 ghost use mathlib.Core.Path.{_≡_};
-ghost use Rattle.error.specs.Refusals.{saidAnswer};
 ghost use Rattle.exact.specs.Doubles.{aboveZero};
-ghost use Rattle.state.specs.Sizes.{framesOf, delayOf};
-ghost use Rattle.state.specs.Record.{pointsIn, maxInputOf, maxOutputOf, saidMade};
+ghost use Rattle.state.specs.Record.{saidMade};
 ghost use Rattle.asynchro.specs.Calls.{
-  saidCount,
   resultOf,
   endOf,
   freshState,
@@ -24,7 +20,6 @@ ghost use Rattle.asynchro.specs.Calls.{
   setRelative,
   chunked,
   setChunk,
-  asked,
 };
 
 // What a setting answers.
@@ -39,12 +34,6 @@ pub struct Outcome {
     pub answer: Done,
 }
 
-// What a question about a number of frames or channels answers.
-pub enum Count {
-    Number(usize),
-    Refused(Refusal),
-}
-
 // Finite and above 0; false for a NaN.
 fn above_zero(x: f64) -> bool
     ensures { λ b. ⌜ b ≡ aboveZero x ⌝ }
@@ -53,7 +42,7 @@ fn above_zero(x: f64) -> bool
 }
 
 // What a call on s leaves, where s stands on a refusal.
-pub fn end_of(s: State, made: Made) -> Outcome
+fn end_of(s: State, made: Made) -> Outcome
     ensures { λ o. ⌜ resultOf o ≡ endOf s (saidMade made) ⌝ }
 {
     match made {
@@ -86,7 +75,7 @@ fn fresh_state(
         input: 0,
         output: 0,
         fill: 0,
-        index: state::sizes::start_index(asynchro_fast::nbr_points(degree)),
+        index: sizes::start_index(asynchro_fast::nbr_points(degree)),
         original: r,
         current: r,
         target: r,
@@ -100,10 +89,10 @@ fn fresh_state(
 fn first_lengths(s: State) -> Made
     ensures { λ r. ⌜ saidMade r ≡ firstLengths s ⌝ }
 {
-    if !state::record::maxima_hold(s) {
+    if !state::maxima_hold(s) {
         return Made::Refused(Refusal::SizeTooLarge);
     }
-    match state::record::update_lengths(s) {
+    match state::update_lengths(s) {
         Made::Ready(t) => {
             let mut next = t;
             next.fill = t.input;
@@ -127,16 +116,16 @@ pub fn new_poly(
     if !above_zero(r) {
         return Made::Refused(Refusal::InvalidRatio(r));
     }
-    if !state::record::at_least_one(m) {
+    if !state::at_least_one(m) {
         return Made::Refused(Refusal::InvalidRelativeRatio(m));
     }
     if chunk < 1 {
         return Made::Refused(Refusal::InvalidChunkSize);
     }
-    if !state::record::is_ratio(r) {
+    if !state::is_ratio(r) {
         return Made::Refused(Refusal::RatioBeyondPort(r));
     }
-    if !state::record::is_channels(channels) {
+    if !state::is_channels(channels) {
         return Made::Refused(Refusal::Channels);
     }
     first_lengths(fresh_state(r, m, degree, chunk, channels, fixed))
@@ -153,13 +142,13 @@ fn relative_ratio_in_bounds(m: f64, rel: f64) -> bool
 fn apply_ratio(s: State, accepted: bool, r: f64, ramp: bool) -> Made
     ensures { λ t. ⌜ saidMade t ≡ applied s accepted r ramp ⌝ }
 {
-    if !state::record::is_state(s) {
+    if !state::is_state(s) {
         return Made::Refused(Refusal::StateRecord);
     }
     if !accepted {
         return Made::Refused(Refusal::RatioOutOfBounds(r, s.original, s.m));
     }
-    if !state::record::is_ratio(r) {
+    if !state::is_ratio(r) {
         return Made::Refused(Refusal::RatioBeyondPort(r));
     }
     let mut next = s;
@@ -167,7 +156,7 @@ fn apply_ratio(s: State, accepted: bool, r: f64, ramp: bool) -> Made
     if !ramp {
         next.current = r;
     }
-    state::record::update_lengths(next)
+    state::update_lengths(next)
 }
 
 // An absolute setting: refusals 10, 4, 5, 6.
@@ -191,7 +180,7 @@ pub fn set_resample_ratio_relative(s: State, rel: f64, ramp: bool) -> Outcome
 fn apply_chunk(s: State, n: usize) -> Made
     ensures { λ t. ⌜ saidMade t ≡ chunked s n ⌝ }
 {
-    if !state::record::is_state(s) {
+    if !state::is_state(s) {
         return Made::Refused(Refusal::StateRecord);
     }
     if !((1 <= n) & (n <= s.chunk0)) {
@@ -199,7 +188,7 @@ fn apply_chunk(s: State, n: usize) -> Made
     }
     let mut resized = s;
     resized.chunk = n;
-    state::record::update_lengths(resized)
+    state::update_lengths(resized)
 }
 
 // A chunk setting: refusals 10, 3, 6.
@@ -207,71 +196,4 @@ pub fn set_chunk_size(s: State, n: usize) -> Outcome
     ensures { λ o. ⌜ resultOf o ≡ setChunk s n ⌝ }
 {
     end_of(s, apply_chunk(s, n))
-}
-
-// A question about a number: refusal 10 only.
-fn asked_count(s: State, n: usize) -> Count
-    ensures { λ r. ⌜ saidCount r ≡ asked s n ⌝ }
-{
-    if state::record::is_state(s) {
-        Count::Number(n)
-    } else {
-        Count::Refused(Refusal::StateRecord)
-    }
-}
-
-// The input frames that the next block needs.
-pub fn input_frames_next(s: State) -> Count
-    ensures { λ r. ⌜ saidCount r ≡ asked s (s .input) ⌝ }
-{
-    asked_count(s, s.input)
-}
-
-// The output frames that the next block gives.
-pub fn output_frames_next(s: State) -> Count
-    ensures { λ r. ⌜ saidCount r ≡ asked s (s .output) ⌝ }
-{
-    asked_count(s, s.output)
-}
-
-// The maximum input, from the construction values.
-pub fn input_frames_max(s: State) -> Count
-    ensures { λ r. ⌜ saidCount r ≡ asked s (framesOf (maxInputOf s)) ⌝ }
-{
-    asked_count(s, state::sizes::frames_of(state::record::max_input_of(s)))
-}
-
-// The maximum output, from the construction values.
-pub fn output_frames_max(s: State) -> Count
-    ensures { λ r. ⌜ saidCount r ≡ asked s (framesOf (maxOutputOf s)) ⌝ }
-{
-    asked_count(s, state::sizes::frames_of(state::record::max_output_of(s)))
-}
-
-// The channel count.
-pub fn nbr_channels(s: State) -> Count
-    ensures { λ r. ⌜ saidCount r ≡ asked s (s .channels) ⌝ }
-{
-    asked_count(s, s.channels)
-}
-
-// The output delay in frames, L*r1/2 truncated.
-pub fn output_delay(s: State) -> Count
-    ensures { λ r. ⌜ saidCount r ≡ asked s (framesOf (delayOf (pointsIn s) (s .current))) ⌝ }
-{
-    asked_count(
-        s,
-        state::sizes::frames_of(state::sizes::delay_of(state::record::points_in(s), s.current)),
-    )
-}
-
-// The current ratio.
-pub fn resample_ratio(s: State) -> Answer
-    ensures { λ r. ⌜ saidAnswer r ≡ asked s (s .current) ⌝ }
-{
-    if state::record::is_state(s) {
-        Answer::Value(s.current)
-    } else {
-        Answer::Refused(Refusal::StateRecord)
-    }
 }

@@ -18,7 +18,7 @@ use printer::put_decimal;
 use printer::put_signed;
 use printer::samples_of;
 use process::Sizes;
-use state::record::State;
+use state::State;
 
 fn put_float(out: &mut [u8], at: usize, x: f64) -> usize {
     let p = put_byte(out, at, 32);
@@ -68,8 +68,8 @@ fn put_refusal(out: &mut [u8], at: usize, r: Refusal) -> usize {
 }
 
 fn put_maxima(out: &mut [u8], at: usize, s: State) -> usize {
-    let p = put_count(out, at, number_in(asynchro::input_frames_max(s)));
-    put_count(out, p, number_in(asynchro::output_frames_max(s)))
+    let p = put_count(out, at, number_in(questions::input_frames_max(s)));
+    put_count(out, p, number_in(questions::output_frames_max(s)))
 }
 
 // channels chunk construction-chunk needed-in needed-out
@@ -107,11 +107,11 @@ fn put_ratio(out: &mut [u8], at: usize, ratio: Answer) -> usize {
 
 // needed-in needed-out max-in max-out current delay
 fn put_questions(out: &mut [u8], at: usize, s: State) -> usize {
-    let p1 = put_count(out, at, number_in(asynchro::input_frames_next(s)));
-    let p2 = put_count(out, p1, number_in(asynchro::output_frames_next(s)));
+    let p1 = put_count(out, at, number_in(questions::input_frames_next(s)));
+    let p2 = put_count(out, p1, number_in(questions::output_frames_next(s)));
     let p3 = put_maxima(out, p2, s);
-    let p4 = put_ratio(out, p3, asynchro::resample_ratio(s));
-    put_count(out, p4, number_in(asynchro::output_delay(s)))
+    let p4 = put_ratio(out, p3, questions::resample_ratio(s));
+    put_count(out, p4, number_in(questions::output_delay(s)))
 }
 
 // An area's first samples.

@@ -10,7 +10,7 @@ use record::Kept;
 use said::Said;
 use said::Shown;
 use script::words::Command;
-use state::record::State;
+use state::State;
 
 // What a command says that keeps the record and the working area.
 fn told(command: Command, state: State, values: &[u64], input: &[f64]) -> Said {

@@ -2,7 +2,7 @@
 use crate::said::Said;
 use crate::said::Shown;
 use crate::said::number_in;
-use asynchro::Count;
+use questions::Count;
 use asynchro::Done;
 use asynchro::Outcome;
 use asynchro_fast::PolynomialDegree;
@@ -16,9 +16,9 @@ use script::values::flag_at;
 use script::values::float_at;
 use script::values::number_at;
 use script::values::side_at;
-use state::record::Made;
-use state::record::State;
-use state::sizes::FixedAsync;
+use state::Made;
+use state::State;
+use sizes::FixedAsync;
 
 // The most samples of an area.
 const MOST: usize = 131072;
@@ -98,8 +98,8 @@ fn area_length(channels: usize, most: usize, l: usize) -> usize {
 
 // Zeros for a new record; how many there are.
 fn zeroed(s: State, work: &mut [f64]) -> usize {
-    let most = number_in(asynchro::input_frames_max(s));
-    let l = state::record::points_in(s);
+    let most = number_in(questions::input_frames_max(s));
+    let l = state::points_in(s);
     let n = samples_of(work, area_length(s.channels, most, l));
     area::zero_all(&mut work[..n]);
     n
@@ -229,7 +229,7 @@ pub fn block(
 }
 
 pub fn questions(state: State) -> Said {
-    match asynchro::input_frames_next(state) {
+    match questions::input_frames_next(state) {
         Count::Number(_) => Said::Kept(Shown::Questions),
         Count::Refused(r) => Said::Refused(r),
     }

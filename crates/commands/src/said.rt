@@ -1,6 +1,6 @@
 // What a line is answered with: `ok` with what was asked for, `ref` with a refusal's number and floats,
 // or `bad`.
-use asynchro::Count;
+use questions::Count;
 use error::Answer;
 use error::Refusal;
 use interpolation::Point;

@@ -3,9 +3,10 @@ use mathlib.Core.Bool.{Bool, true, false, not}
 use mathlib.Core.List.{List}
 use mathlib.Core.Path.{_≡_, refl, sym, _∙_}
 use Prim.Native.Nat.{ℕ}
+use native.Mathlib.Omega.{arith}
 use borrow.Author.Tests.{not-true, not-false}
 use lib.Ieee.{Float}
-use Rattle.error.specs.Refusals.{Said, refused, unless}
+use Rattle.error.specs.Refusals.{Said, given, refused, unless}
 
 -- the test passes: the next rung decides
 pub pass : {A : Type 0} (b : Bool) (n : ℕ) (vs : List Float) (next x : Said A) → b ≡ true → x ≡ next → x ≡ unless b n vs next
@@ -22,3 +23,12 @@ failed {r} e t = sym e ∙ not-true r t
 
 pub passed : {r b : Bool} → r ≡ b → not r ≡ false → b ≡ true
 passed {r} e t = sym e ∙ not-false r t
+
+-- a ladder that gives passed its test, and went on
+pub accepted : {A : Type 0} (b : Bool) (n : ℕ) (vs : List Float) (next : Said A) (a : A) → unless b n vs next ≡ given a → (b ≡ true) × (next ≡ given a)
+unfolding unless
+accepted true n vs next a e = (refl, e)
+accepted false n vs next a e = absurd (let z : _≡_ {A = ℕ} 0 1 = cc in omega arith)
+
+pub same-given : {A : Type 0} (a b : A) → given a ≡ given b → a ≡ b
+same-given a b e = cc

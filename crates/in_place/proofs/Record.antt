@@ -19,11 +19,11 @@ use denote.Steps.{opens, closes, owned, peeks}
 use denote.Struct.Steps.{spelt}
 use denote.Struct.Laws as LL
 use denote.Enum.Laws as LE
-use Rattle.state.specs.declared.record.State.{State}
+use Rattle.state.specs.declared.State.{State}
 use Rattle.asynchro.specs.declared.Outcome.{Outcome}
 use Rattle.asynchro.specs.declared.Done.{Done}
-use Rattle.state.proofs.record.State as S
-use Rattle.state.proofs.record.State.Laws as S′
+use Rattle.state.proofs.State as S
+use Rattle.state.proofs.State.Laws as S′
 use Rattle.asynchro.proofs.Outcome as O
 use Rattle.asynchro.proofs.Outcome.Laws as O′
 use Rattle.asynchro.proofs.Done as N

@@ -3,7 +3,7 @@
 // through a mutable reference".
 use asynchro::Done;
 use process::Ran;
-use state::record::State;
+use state::State;
 ghost use mathlib.Core.Path.{_≡_};
 ghost use Rattle.asynchro.specs.Calls.{resultOf, setRatio, setRelative, setChunk};
 ghost use Rattle.process.specs.Block.{blockOf, blockLeft, resetOf, resetLeft};

@@ -11,16 +11,16 @@ use Rattle.exact.specs.Whole.{_⊕_, AtMost, Below}
 use Rattle.exact.specs.Exact.{exact, Number}
 use Rattle.error.specs.Refusals.{given}
 use Rattle.asynchro_fast.specs.declared.PolynomialDegree.{PolynomialDegree}
-use Rattle.state.specs.declared.sizes.Size.the-variants.{Frames}
-use Rattle.state.specs.declared.sizes.FixedAsync.{FixedAsync}
-use Rattle.state.specs.declared.sizes.FixedAsync.the-variants.{Input, Output}
-use Rattle.state.specs.declared.record.State.{State}
-use Rattle.state.specs.Bounds.{isSize}
-use Rattle.state.specs.Sizes.{neededInput, neededOutput, framesOf, isFrames, sizeHolds}
+use Rattle.sizes.specs.declared.Size.the-variants.{Frames}
+use Rattle.sizes.specs.declared.FixedAsync.{FixedAsync}
+use Rattle.sizes.specs.declared.FixedAsync.the-variants.{Input, Output}
+use Rattle.state.specs.declared.State.{State}
+use Rattle.sizes.specs.Bounds.{isSize}
+use Rattle.sizes.specs.Sizes.{neededInput, neededOutput, framesOf, isFrames, sizeHolds}
 use Rattle.state.specs.Record.{pointsIn, stepNow, stepThen, inputOf, outputOf, maxInputOf, isState, withSizes, updateLengths}
 use Rattle.state.proofs.Points.{points-few}
 use Rattle.state.proofs.Valid.{valid}
-use Rattle.asynchro.proofs.Keeps.{accepted}
+use Rattle.error.proofs.Ladder.{accepted}
 use Rattle.frames.specs.Path.{pathAt}
 use Rattle.frames.specs.Places.{shiftOf, lastOf, allReach}
 use Rattle.process.specs.Block.{shapeHolds, incrementOf, reachHolds, afterBlock, planned}

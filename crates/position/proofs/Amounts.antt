@@ -14,7 +14,7 @@ use Rattle.exact.specs.Rounding.{slack}
 use Rattle.exact.proofs.Sums.{sub-near}
 use Rattle.exact.proofs.Products.{mul-near}
 use Rattle.whole.proofs.Units.{whole-exact, whole-number}
-use Rattle.state.specs.Bounds.{leastF, mostF, lowF, highF}
+use Rattle.sizes.specs.Bounds.{leastF, mostF, lowF, highF}
 
 -- ---- the constants
 pub zero-exact : Number binary64 zeroF × (exact binary64 zeroF ≡ (0, 0))

@@ -2,7 +2,7 @@
 -- (N+B)/2^37, plus n*(n+1)/2^46 for each block whose d is not zero, away from the exact one. In units of 2 ^ -1074. Assumes nothing.
 use mathlib.Core.List.{List}
 use Rattle.exact.specs.Whole.{Within}
-use Rattle.state.specs.declared.record.State.{State}
+use Rattle.state.specs.declared.State.{State}
 use Rattle.position.specs.History.{Start, Call}
 use Rattle.position.specs.Position.{opened, ledger, stored, bound}
 use Rattle.position.proofs.Keeps.{start-doubles}

@@ -16,9 +16,9 @@ use Rattle.exact.proofs.Products.{div-near}
 use Rattle.whole.specs.Rounded.{floorOf}
 use Rattle.whole.proofs.Units.{shared}
 use Rattle.whole.proofs.Values.{part-bounds, floor-greatest}
-use Rattle.state.specs.declared.sizes.Size.the-variants.{Frames}
-use Rattle.state.specs.Bounds.{isSize}
-use Rattle.state.specs.Sizes.{sized, sizeOf, avgOf, overOf, outputFloat}
+use Rattle.sizes.specs.declared.Size.the-variants.{Frames}
+use Rattle.sizes.specs.Bounds.{isSize}
+use Rattle.sizes.specs.Sizes.{sized, sizeOf, avgOf, overOf, outputFloat}
 use Rattle.position.proofs.Amounts.{count-exact, mag-between, mag-below, looser, half-near, sub-of}
 use Rattle.position.proofs.Steps.{Pace, Step, difference}
 

@@ -12,9 +12,9 @@ use Rattle.exact.specs.Running.{tri}
 use Rattle.error.specs.Refusals.{unless}
 use Rattle.whole.specs.Rounded.{madeWhole}
 use Rattle.asynchro_fast.specs.declared.PolynomialDegree.the-variants.{Linear}
-use Rattle.state.specs.declared.sizes.FixedAsync.the-variants.{Output}
-use Rattle.state.specs.declared.record.State.{State}
-use Rattle.state.specs.Sizes.{twoF, startOf, sizeOf, neededInput, neededOutput, maxInput, maxOutput}
+use Rattle.sizes.specs.declared.FixedAsync.the-variants.{Output}
+use Rattle.state.specs.declared.State.{State}
+use Rattle.sizes.specs.Sizes.{twoF, startOf, sizeOf, neededInput, neededOutput, maxInput, maxOutput}
 use Rattle.state.specs.Record.{isState, updateLengths}
 use Rattle.asynchro.specs.Calls.{construct, firstLengths}
 use Rattle.frames.specs.Path.{pathAt}

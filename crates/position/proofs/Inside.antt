@@ -5,8 +5,8 @@ use Prim.Native.Nat.{ℕ}
 use lib.Ieee.{Float}
 use lib.Ieee.Bits.{is-true}
 use Rattle.error.specs.Refusals.{given}
-use Rattle.state.specs.declared.record.State.{State}
-use Rattle.state.specs.Bounds.{isIndex}
+use Rattle.state.specs.declared.State.{State}
+use Rattle.sizes.specs.Bounds.{isIndex}
 use Rattle.state.specs.Record.{isState}
 use Rattle.process.specs.Block.{afterBlock, planned}
 use Rattle.process.proofs.Keeps.{block-keeps}

@@ -10,12 +10,12 @@ use lib.ListN.{length}
 use lib.Ieee.Fits.{neg-fits, sub-fits, mul-fits, div-fits}
 use Rattle.exact.specs.Doubles.{_*f_, _/f_, count, aboveZero, atLeastOne}
 use Rattle.error.specs.Refusals.{Said, given, refused}
-use Rattle.state.specs.declared.record.State.{State}
-use Rattle.state.specs.Bounds.{isRatio, isChannels}
-use Rattle.state.specs.Sizes.{twoF, startOf}
+use Rattle.state.specs.declared.State.{State}
+use Rattle.sizes.specs.Bounds.{isRatio, isChannels}
+use Rattle.sizes.specs.Sizes.{twoF, startOf}
 use Rattle.state.specs.Record.{pointsIn, maximaHold, isState, updateLengths}
 use Rattle.asynchro.specs.Calls.{endOf, freshState, withFill, filled, firstLengths, construct, relativeHolds, withRatio, applied, setRatio, setRelative, withChunk, chunked, setChunk}
-use Rattle.asynchro.proofs.Keeps.{accepted}
+use Rattle.error.proofs.Ladder.{accepted}
 use Rattle.process.specs.Block.{workHolds, indexAfter, restored, resetting, resetEnd}
 use Rattle.position.specs.History.{Double, Doubles, Start, constructed, restarted}
 use Rattle.position.proofs.Accepted.{sizes-given, Passed}

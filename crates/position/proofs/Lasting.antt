@@ -6,7 +6,7 @@ use Prim.Native.Nat.{ℕ}
 use lib.Ieee.{Float}
 use lib.ListN.{length}
 use Rattle.error.specs.Refusals.{Said, given, refused}
-use Rattle.state.specs.declared.record.State.{State}
+use Rattle.state.specs.declared.State.{State}
 use Rattle.state.specs.Record.{isState}
 use Rattle.asynchro.proofs.Keeps.{ratio-keeps, relative-keeps, chunk-keeps, construct-keeps}
 use Rattle.process.specs.Block.{planned, blockEnd}

@@ -8,7 +8,7 @@ use lib.ListN.{length}
 use Rattle.exact.specs.Whole.{Whole, _⊕_, Within}
 use Rattle.exact.specs.Exact.{exact}
 use Rattle.error.specs.Refusals.{Said, given, refused}
-use Rattle.state.specs.declared.record.State.{State}
+use Rattle.state.specs.declared.State.{State}
 use Rattle.process.specs.Block.{afterBlock, planned, sizesOf, blockEnd}
 use Rattle.position.specs.History.{Doubles, Call, ratio, relative, chunk, block, after}
 use Rattle.position.specs.Position.{Account, opened, exactMove, rampOf, added, accounted, ledger, stored, bound}

@@ -11,7 +11,7 @@ use lib.Ieee.Scale.{finite}
 use Rattle.exact.specs.Whole.{Whole, Less, AtMost, Below}
 use Rattle.exact.specs.Exact.{exact, Number}
 use Rattle.exact.proofs.Order.{lt-exact, le-exact}
-use Rattle.state.specs.Bounds.{leastF, mostF, lowF, highF, isRatio, isIndex}
+use Rattle.sizes.specs.Bounds.{leastF, mostF, lowF, highF, isRatio, isIndex}
 use Rattle.position.specs.History.{Double}
 use Rattle.position.proofs.Amounts.{least-exact, most-exact, low-exact, high-exact}
 

@@ -7,8 +7,8 @@ use lib.Dec.{T}
 use lib.Ieee.{Float, binary64, fits}
 use Rattle.error.specs.Refusals.{Said, given, refused}
 use Rattle.asynchro_fast.specs.declared.PolynomialDegree.{PolynomialDegree}
-use Rattle.state.specs.declared.sizes.FixedAsync.{FixedAsync}
-use Rattle.state.specs.declared.record.State.{State}
+use Rattle.sizes.specs.declared.FixedAsync.{FixedAsync}
+use Rattle.state.specs.declared.State.{State}
 use Rattle.asynchro.specs.Calls.{construct, setRatio, setRelative, setChunk}
 use Rattle.process.specs.Block.{blockOf, resetOf}
 

@@ -9,7 +9,7 @@ use Rattle.exact.specs.Whole.{Whole, _⊕_, _⊙_}
 use Rattle.exact.specs.Exact.{exact}
 use Rattle.exact.specs.Running.{tri}
 use Rattle.error.specs.Refusals.{Said, given, refused}
-use Rattle.state.specs.declared.record.State.{State}
+use Rattle.state.specs.declared.State.{State}
 use Rattle.state.specs.Record.{stepNow}
 use Rattle.process.specs.declared.Sizes.{Sizes}
 use Rattle.process.specs.Block.{incrementOf, blockOf}

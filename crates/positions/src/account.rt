@@ -4,7 +4,7 @@ use asynchro::Outcome;
 use big::Big;
 use big::FromDouble;
 use process::Ran;
-use state::record::State;
+use state::State;
 ghost use mathlib.Core.Path.{_≡_};
 ghost use Prim.Native.Nat.{_+_, _*_, _/_, _≤_};
 
@@ -93,7 +93,7 @@ fn added(a: Account, next: State, used: u64, n: u32) -> Account
 {
     let s = a.state;
     let d = process::t_ratio_increment(s);
-    let FromDouble::Units(step) = exact_move(state::record::step_now(s), d, n) else {
+    let FromDouble::Units(step) = exact_move(state::step_now(s), d, n) else {
         return failed(a);
     };
     let exactly = big::add(a.exactly, step);

@@ -1,10 +1,10 @@
 // The passes: each a record, its settings, and its blocks.
 use crate::account::Account;
-use asynchro::Count;
+use questions::Count;
 use asynchro_fast::PolynomialDegree;
-use state::record::Made;
-use state::record::State;
-use state::sizes::FixedAsync;
+use state::Made;
+use state::State;
+use sizes::FixedAsync;
 ghost use Prim.Native.Nat.{_≤_};
 
 // A ramp to the one ratio of the first pass.
@@ -101,7 +101,7 @@ fn started(
     output: &mut [f64],
     work: &mut [f64],
 ) {
-    let Count::Number(most) = asynchro::input_frames_max(s) else {
+    let Count::Number(most) = questions::input_frames_max(s) else {
         return;
     };
     let degree = s.degree;

@@ -9,13 +9,14 @@ use borrow.Author.Tests.{le-leb}
 use lib.Ieee.{Float}
 use lib.ListN.{length}
 use Rattle.error.specs.Refusals.{Said, given, refused}
-use Rattle.state.specs.declared.record.State.{State}
-use Rattle.state.specs.Bounds.{isIndex, isChannels, isChunk}
+use Rattle.state.specs.declared.State.{State}
+use Rattle.sizes.specs.Bounds.{isIndex, isChannels, isChunk}
 use Rattle.state.specs.Record.{pointsIn, isState}
 use Rattle.state.proofs.Points.{points-few}
-use Rattle.state.proofs.Start.{start-inside}
+use Rattle.sizes.proofs.Start.{start-inside}
 use Rattle.state.proofs.Valid.{join, Ready, tests, valid}
-use Rattle.asynchro.proofs.Keeps.{accepted, update-keeps}
+use Rattle.error.proofs.Ladder.{accepted}
+use Rattle.state.proofs.Keeps.{update-keeps}
 use Rattle.process.specs.declared.Sizes.{Sizes}
 use Rattle.process.specs.Block.{workHolds, shapeHolds, reachHolds, afterBlock, planned, blockEnd, blockOf, restored, resetting, resetEnd, resetOf}
 

@@ -6,9 +6,9 @@ use native.Mathlib.Nat.{mul-le-mul, min-le-right, div-add-mod}
 use native.Mathlib.Omega.{arith}
 use borrow.Author.Tests.{leb-true, eqb-true}
 use lib.Dec.{eqb, leb}
-use Rattle.state.specs.declared.record.State.{State}
-use Rattle.state.specs.declared.sizes.Size.{Size}
-use Rattle.state.specs.Sizes.{framesOf}
+use Rattle.state.specs.declared.State.{State}
+use Rattle.sizes.specs.declared.Size.{Size}
+use Rattle.sizes.specs.Sizes.{framesOf}
 use Rattle.state.specs.Record.{pointsIn, maxInputOf, isState}
 use Rattle.state.proofs.Points.{points-few}
 use Rattle.whole.proofs.Sizes.{both}

@@ -8,13 +8,13 @@ use lib.Ieee.{Float}
 use lib.ListN.{length, replicate}
 use Rattle.exact.specs.Doubles.{_-f_, _/f_, count, zeroF}
 use Rattle.error.specs.declared.Refusal.{Refusal}
-use Rattle.state.specs.declared.record.State.{State}
-use Rattle.state.specs.declared.record.Made.{Made}
-use Rattle.state.specs.declared.record.Made.the-variants as made
+use Rattle.state.specs.declared.State.{State}
+use Rattle.state.specs.declared.Made.{Made}
+use Rattle.state.specs.declared.Made.the-variants as made
 use Rattle.asynchro.specs.declared.Done.the-variants as done
-use Rattle.state.specs.Sizes.{startOf}
+use Rattle.sizes.specs.Sizes.{startOf}
 use Rattle.state.specs.Record.{pointsIn, stepNow, stepThen, isState, changed, saidMade}
-use Rattle.asynchro.proofs.Keeps.{accepted}
+use Rattle.error.proofs.Ladder.{accepted}
 use Rattle.area.specs.Moves.{movedAll, loadedAll}
 use Rattle.frames.specs.Path.{pathAt}
 use Rattle.frames.specs.Places.{shiftOf, lastOf, allReach}

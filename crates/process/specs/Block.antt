@@ -7,8 +7,8 @@ use lib.Ieee.{Float}
 use lib.ListN.{length, replicate}
 use Rattle.exact.specs.Doubles.{_-f_, _/f_, count, zeroF}
 use Rattle.error.specs.Refusals.{Said, given, refused, unless, numberOf, valuesOf}
-use Rattle.state.specs.declared.record.State.{State}
-use Rattle.state.specs.Sizes.{framesOf, startOf}
+use Rattle.state.specs.declared.State.{State}
+use Rattle.sizes.specs.Sizes.{framesOf, startOf}
 use Rattle.state.specs.Record.{pointsIn, stepNow, stepThen, maxInputOf, isState, changed, updateLengths}
 use Rattle.area.specs.Mask.{maskFits}
 use Rattle.area.specs.Moves.{movedAll, loadedAll}

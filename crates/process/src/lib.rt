@@ -3,8 +3,8 @@
 use asynchro::Done;
 use asynchro::Outcome;
 use error::Refusal;
-use state::record::Made;
-use state::record::State;
+use state::Made;
+use state::State;
 ghost use mathlib.Core.Path.{_≡_};
 ghost use mathlib.Core.Bool.{true};
 ghost use lib.ListN.{length};
@@ -59,7 +59,7 @@ fn frames_to_read(s: State, frames: usize) -> usize
 fn stride_of(s: State) -> usize
     ensures { λ r. ⌜ r ≡ strideOf s ⌝ }
 {
-    state::sizes::frames_of(state::record::max_input_of(s)) + 2 * state::record::points_in(s)
+    sizes::frames_of(state::max_input_of(s)) + 2 * state::points_in(s)
 }
 
 // The working area is of exactly the right length. s has passed the StateRecord test.
@@ -103,8 +103,8 @@ pub fn t_ratio_increment(s: State) -> f64
     if s.output == 0 {
         return 0.0;
     }
-    let n = state::sizes::float_of(s.output);
-    (state::record::step_then(s) - state::record::step_now(s)) / n
+    let n = sizes::float_of(s.output);
+    (state::step_then(s) - state::step_now(s)) / n
 }
 
 // Refusal 9's test, and the index after the last frame.
@@ -113,7 +113,7 @@ fn look(s: State) -> frames::Looked
     ensures reach { λ r. ⌜ r .reach ≡ reachHolds s ⌝ }
     ensures index { λ r. ⌜ r .index ≡ indexAfter s ⌝ }
 {
-    let t = state::record::step_now(s);
+    let t = state::step_now(s);
     let d = t_ratio_increment(s);
     let degree = s.degree;
     frames::look(degree, s.input, t, d, s.index, s.output)
@@ -126,7 +126,7 @@ fn after_block(s: State, index: f64) -> State
 {
     let mut next = s;
     next.fill = s.input;
-    next.index = index - state::sizes::float_of(s.input);
+    next.index = index - sizes::float_of(s.input);
     next.current = s.target;
     next
 }
@@ -135,7 +135,7 @@ fn after_block(s: State, index: f64) -> State
 fn plan(s: State, frames: usize, mask: u64, input: usize, output: usize, work: usize) -> Made
     ensures { λ r. ⌜ saidMade r ≡ planned s frames mask input output work ⌝ }
 {
-    if !state::record::is_state(s) {
+    if !state::is_state(s) {
         return Made::Refused(Refusal::StateRecord);
     }
     if !validate_buffers(s, frames, mask, input, output, work) {
@@ -145,7 +145,7 @@ fn plan(s: State, frames: usize, mask: u64, input: usize, output: usize, work: u
     if !seen.reach {
         return Made::Refused(Refusal::Reach);
     }
-    state::record::update_lengths(after_block(s, seen.index))
+    state::update_lengths(after_block(s, seen.index))
 }
 
 // The second pass: what the areas become. `at` and `to` are places in each share of the input and
@@ -168,7 +168,7 @@ fn write(
 {
     let channels = s.channels;
     let stride = stride_of(s);
-    let l2 = 2 * state::record::points_in(s);
+    let l2 = 2 * state::points_in(s);
     let read = frames_to_read(s, frames);
     let share_in = input.len() / channels;
     let share_out = output.len() / channels;
@@ -185,7 +185,7 @@ fn write(
         read,
         s.input,
     );
-    let t = state::record::step_now(s);
+    let t = state::step_now(s);
     let d = t_ratio_increment(s);
     let degree = s.degree;
     frames::run_all(
@@ -240,7 +240,7 @@ fn restored_state(s: State) -> State
 {
     let mut next = s;
     next.chunk = s.chunk0;
-    next.index = state::sizes::start_index(state::record::points_in(s));
+    next.index = sizes::start_index(state::points_in(s));
     next.current = s.original;
     next.target = s.original;
     next
@@ -250,13 +250,13 @@ fn restored_state(s: State) -> State
 fn plan_reset(s: State, work: usize) -> Made
     ensures { λ r. ⌜ saidMade r ≡ resetting s work ⌝ }
 {
-    if !state::record::is_state(s) {
+    if !state::is_state(s) {
         return Made::Refused(Refusal::StateRecord);
     }
     if !work_holds(s, work) {
         return Made::Refused(Refusal::BufferShape);
     }
-    state::record::update_lengths(restored_state(s))
+    state::update_lengths(restored_state(s))
 }
 
 // Reset: ratio, chunk, index and sizes as at the start, zeros in the working area, the fill stays.

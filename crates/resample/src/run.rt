@@ -22,8 +22,8 @@ use printer::bytes_of;
 use printer::samples_of;
 use process::BlockOutcome;
 use process::Ran;
-use state::record::Made;
-use state::record::State;
+use state::Made;
+use state::State;
 
 // The blocks so far, and all frames in and out. `going` is false once the run is to stop, and `good`
 // where that is before the input's end.
@@ -188,7 +188,7 @@ fn logged(t: Totals, s: State, block: u64, index: f64, files: Files) -> Totals {
         block,
         input: s.input as u64,
         output: s.output as u64,
-        step: state::record::step_now(s),
+        step: state::step_now(s),
         increment: process::t_ratio_increment(s),
         index,
         frames: t.output,

@@ -1,5 +1,5 @@
 // The record that the words ask for, the changes of its ratio, and how large the areas of a pass are.
-use asynchro::Count;
+use questions::Count;
 use asynchro::Done;
 use asynchro::Outcome;
 use asynchro_fast::PolynomialDegree;
@@ -10,9 +10,9 @@ use options::say_number;
 use options::say_refused;
 use options::say_start;
 use pass::samples_in;
-use state::record::Made;
-use state::record::State;
-use state::sizes::FixedAsync;
+use state::Made;
+use state::State;
+use sizes::FixedAsync;
 
 // A record after the changes before a block; `good` is false where one was refused.
 pub struct Changed {
@@ -113,8 +113,8 @@ fn sum(a: usize, b: usize) -> usize {
 
 // The samples of the working area.
 pub fn work_length(s: State) -> usize {
-    let most = number_in(asynchro::input_frames_max(s));
-    let l = state::record::points_in(s);
+    let most = number_in(questions::input_frames_max(s));
+    let l = state::points_in(s);
     let room = area_length(s.channels, most);
     sum(room, area_length(s.channels, sum(l, l)))
 }

@@ -1,6 +1,6 @@
 // The numbers of a line's words, as the calls take them.
 use asynchro_fast::PolynomialDegree;
-use state::sizes::FixedAsync;
+use sizes::FixedAsync;
 use windows::WindowFunction;
 
 pub fn number_at(values: &[u64], k: usize) -> u64 {

@@ -9,13 +9,13 @@ use lib.Ieee.{Float, nan, inf, fin, up, down}
 use Rattle.exact.specs.Doubles.{_+f_, _*f_, _/f_, count, atLeastOne}
 use Rattle.whole.specs.Rounded.{ceilOf}
 use Rattle.whole.proofs.Sizes.{both}
-use Rattle.state.specs.declared.sizes.FixedAsync.{FixedAsync}
-use Rattle.state.specs.declared.sizes.FixedAsync.the-variants.{Input, Output}
-use Rattle.state.specs.declared.sizes.Size.{Size}
-use Rattle.state.specs.declared.sizes.Size.the-variants.{Frames, TooLarge}
-use Rattle.state.specs.declared.record.State.{State}
-use Rattle.state.specs.Bounds.{isRatio, isChannels, isChunk, isSize, isIndex}
-use Rattle.state.specs.Sizes.{twoF, sized, sizeOf, sizeOfCount, inputFloat, outputFloat, neededInput, neededOutput, maxInput, isFrames, framesOf, sizeIs, sizeHolds}
+use Rattle.sizes.specs.declared.FixedAsync.{FixedAsync}
+use Rattle.sizes.specs.declared.FixedAsync.the-variants.{Input, Output}
+use Rattle.sizes.specs.declared.Size.{Size}
+use Rattle.sizes.specs.declared.Size.the-variants.{Frames, TooLarge}
+use Rattle.state.specs.declared.State.{State}
+use Rattle.sizes.specs.Bounds.{isRatio, isChannels, isChunk, isSize, isIndex}
+use Rattle.sizes.specs.Sizes.{twoF, sized, sizeOf, sizeOfCount, inputFloat, outputFloat, neededInput, neededOutput, maxInput, isFrames, framesOf, sizeIs, sizeHolds}
 use Rattle.state.specs.Record.{pointsIn, stepNow, stepThen, inputOf, outputOf, maxInputOf, maxOutputOf, countsHold, ratiosHold, maximaHold, sizesHold, isState}
 
 -- two tests joined

@@ -1,4 +1,2 @@
--- The state record: bounds, sizes, the StateRecord test. Definitions only.
-pub mod Bounds
-pub mod Sizes
+-- The state record and the StateRecord test. Definitions only.
 pub mod Record

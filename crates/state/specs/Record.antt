@@ -7,12 +7,12 @@ use lib.Ieee.{Float}
 use Rattle.exact.specs.Doubles.{_/f_, oneF, atLeastOne}
 use Rattle.error.specs.Refusals.{Said, given, refused, unless, numberOf, valuesOf}
 use Rattle.asynchro_fast.specs.Degrees.{pointsOf}
-use Rattle.state.specs.declared.record.State.{State}
-use Rattle.state.specs.declared.sizes.Size.{Size}
-use Rattle.state.specs.declared.record.Made.{Made}
-use Rattle.state.specs.declared.record.Made.the-variants as made
-use Rattle.state.specs.Bounds.{isRatio, isChannels, isChunk, isIndex}
-use Rattle.state.specs.Sizes.{neededInput, neededOutput, maxInput, maxOutput, isFrames, framesOf, sizeIs, sizeHolds}
+use Rattle.state.specs.declared.State.{State}
+use Rattle.sizes.specs.declared.Size.{Size}
+use Rattle.state.specs.declared.Made.{Made}
+use Rattle.state.specs.declared.Made.the-variants as made
+use Rattle.sizes.specs.Bounds.{isRatio, isChannels, isChunk, isIndex}
+use Rattle.sizes.specs.Sizes.{neededInput, neededOutput, maxInput, maxOutput, isFrames, framesOf, sizeIs, sizeHolds}
 
 -- the points L of a record, and its steps: the only places that divide 1 by a ratio
 abbrev pub pointsIn : State → ℕ

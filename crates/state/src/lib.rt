@@ -1,4 +1,186 @@
-// The state record of a resampler: its sizes, the StateRecord test, and the one end of every call.
-// Document 01: "The ratio state".
-pub mod record;
-pub mod sizes;
+// The state record: its sizes, the StateRecord test, and the one end of every call.
+use sizes::FixedAsync;
+use sizes::Size;
+use asynchro_fast::PolynomialDegree;
+use error::Refusal;
+ghost use mathlib.Core.Path.{_≡_};
+ghost use Rattle.exact.specs.Doubles.{atLeastOne};
+ghost use Rattle.sizes.specs.Bounds.{isRatio, isChannels, isChunk, isIndex};
+ghost use Rattle.state.specs.Record.{
+  stepNow,
+  stepThen,
+  pointsIn,
+  inputOf,
+  outputOf,
+  maxInputOf,
+  maxOutputOf,
+  countsHold,
+  ratiosHold,
+  maximaHold,
+  sizesHold,
+  isState,
+  saidMade,
+  updateLengths,
+};
+
+// Document 01, "The ratio state". `chunk0` is the construction chunk, `input` and `output` are the
+// needed sizes, `fill` the input frames that the working area holds, `m` the largest relative ratio.
+pub struct State {
+    pub channels: usize,
+    pub chunk: usize,
+    pub chunk0: usize,
+    pub input: usize,
+    pub output: usize,
+    pub fill: usize,
+    pub index: f64,
+    pub original: f64,
+    pub current: f64,
+    pub target: f64,
+    pub m: f64,
+    pub degree: PolynomialDegree,
+    pub fixed: FixedAsync,
+}
+
+// A record that a call made, or why not.
+pub enum Made {
+    Ready(State),
+    Refused(Refusal),
+}
+
+// The step of the current ratio, and that of the target: the only places that divide 1 by a ratio.
+pub fn step_now(s: State) -> f64
+    ensures { λ t. ⌜ t ≡ stepNow s ⌝ }
+{
+    1.0 / s.current
+}
+
+pub fn step_then(s: State) -> f64
+    ensures { λ t. ⌜ t ≡ stepThen s ⌝ }
+{
+    1.0 / s.target
+}
+
+// The points L of a record.
+pub fn points_in(s: State) -> usize
+    ensures { λ n. ⌜ n ≡ pointsIn s ⌝ }
+{
+    let degree = s.degree;
+    asynchro_fast::nbr_points(degree)
+}
+
+pub fn input_of(s: State) -> Size
+    ensures { λ r. ⌜ r ≡ inputOf s ⌝ }
+{
+    let t1 = step_now(s);
+    let t2 = step_then(s);
+    let fixed = s.fixed;
+    sizes::calculate_input_size(fixed, points_in(s), s.chunk, s.index, t1, t2)
+}
+
+pub fn output_of(s: State) -> Size
+    ensures { λ r. ⌜ r ≡ outputOf s ⌝ }
+{
+    let t1 = step_now(s);
+    let t2 = step_then(s);
+    let fixed = s.fixed;
+    sizes::calculate_output_size(fixed, points_in(s), s.chunk, s.index, t1, t2)
+}
+
+pub fn max_input_of(s: State) -> Size
+    ensures { λ r. ⌜ r ≡ maxInputOf s ⌝ }
+{
+    let fixed = s.fixed;
+    sizes::calculate_max_input_size(fixed, points_in(s), s.chunk0, s.original, s.m)
+}
+
+pub fn max_output_of(s: State) -> Size
+    ensures { λ r. ⌜ r ≡ maxOutputOf s ⌝ }
+{
+    let fixed = s.fixed;
+    sizes::calculate_max_output_size(fixed, s.chunk0, s.original, s.m)
+}
+
+pub fn is_ratio(r: f64) -> bool
+    ensures { λ b. ⌜ b ≡ isRatio r ⌝ }
+{
+    (r >= 0.00390625) & (r <= 256.0)
+}
+
+// Finite and 1 or more; false for a NaN.
+pub fn at_least_one(x: f64) -> bool
+    ensures { λ b. ⌜ b ≡ atLeastOne x ⌝ }
+{
+    (x >= 1.0) & (x < 1.0 / 0.0)
+}
+
+pub fn is_channels(n: usize) -> bool
+    ensures { λ b. ⌜ b ≡ isChannels n ⌝ }
+{
+    (1 <= n) & (n <= 16)
+}
+
+pub fn is_chunk(n: usize) -> bool
+    ensures { λ b. ⌜ b ≡ isChunk n ⌝ }
+{
+    (1 <= n) & (n <= 65536)
+}
+
+pub fn is_index(i: f64) -> bool
+    ensures { λ b. ⌜ b ≡ isIndex i ⌝ }
+{
+    (i > -131072.0) & (i < 131072.0)
+}
+
+pub fn counts_hold(s: State) -> bool
+    ensures { λ b. ⌜ b ≡ countsHold s ⌝ }
+{
+    is_channels(s.channels) & is_chunk(s.chunk) & is_chunk(s.chunk0) & (s.chunk <= s.chunk0)
+}
+
+pub fn ratios_hold(s: State) -> bool
+    ensures { λ b. ⌜ b ≡ ratiosHold s ⌝ }
+{
+    is_ratio(s.original) & is_ratio(s.current) & is_ratio(s.target) & at_least_one(s.m)
+}
+
+pub fn maxima_hold(s: State) -> bool
+    ensures { λ b. ⌜ b ≡ maximaHold s ⌝ }
+{
+    sizes::is_frames(max_input_of(s)) & sizes::is_frames(max_output_of(s))
+}
+
+pub fn sizes_hold(s: State) -> bool
+    ensures { λ b. ⌜ b ≡ sizesHold s ⌝ }
+{
+    let most = max_input_of(s);
+    sizes::size_is(input_of(s), s.input)
+        & sizes::size_is(output_of(s), s.output)
+        & sizes::size_holds(most, s.input)
+        & sizes::size_holds(most, s.fill)
+}
+
+// The StateRecord test, refusal 10.
+pub fn is_state(s: State) -> bool
+    ensures { λ b. ⌜ b ≡ isState s ⌝ }
+{
+    counts_hold(s) & ratios_hold(s) & maxima_hold(s) & sizes_hold(s) & is_index(s.index)
+}
+
+// The one end of every call: sizes, refusal 6, the record put together.
+pub fn update_lengths(s: State) -> Made
+    ensures { λ r. ⌜ saidMade r ≡ updateLengths s ⌝ }
+{
+    let Size::Frames(input) = input_of(s) else {
+        return Made::Refused(Refusal::SizeTooLarge);
+    };
+    let Size::Frames(output) = output_of(s) else {
+        return Made::Refused(Refusal::SizeTooLarge);
+    };
+    if !sizes::size_holds(max_input_of(s), input) {
+        return Made::Refused(Refusal::SizeTooLarge);
+    }
+    let mut next = s;
+    next.input = input;
+    next.output = output;
+    Made::Ready(next)
+}

@@ -6,9 +6,9 @@ use native.Mathlib.Nat.{le-of-eq, zero-add}
 use lib.Ieee.{Float}
 use lib.ListN.{length}
 use Rattle.error.specs.Refusals.{Said, given, refused}
-use Rattle.state.specs.declared.record.State.{State}
+use Rattle.state.specs.declared.State.{State}
 use Rattle.state.specs.Record.{pointsIn, stepNow}
-use Rattle.asynchro.proofs.Keeps.{accepted}
+use Rattle.error.proofs.Ladder.{accepted}
 use Rattle.area.specs.Parts.{partOf}
 use Rattle.area.specs.Moves.{movedIn, loadedIn, movedAll}
 use Rattle.area.proofs.Parts.{Keeps, length-each, each-apart}

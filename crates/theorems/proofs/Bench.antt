@@ -12,9 +12,9 @@ use Rattle.whole.specs.Rounded.{madeWhole}
 use Rattle.asynchro_fast.specs.declared.PolynomialDegree.the-variants.{Linear, Septic}
 use Rattle.asynchro_fast.specs.Kernels.{interpOf}
 use Rattle.interpolation.specs.Grid.{gridSaid, pointOf}
-use Rattle.state.specs.declared.sizes.FixedAsync.the-variants.{Input}
-use Rattle.state.specs.declared.record.State.{State}
-use Rattle.state.specs.Sizes.{sizeOf, neededInput, neededOutput, maxInput, maxOutput}
+use Rattle.sizes.specs.declared.FixedAsync.the-variants.{Input}
+use Rattle.state.specs.declared.State.{State}
+use Rattle.sizes.specs.Sizes.{sizeOf, neededInput, neededOutput, maxInput, maxOutput}
 use Rattle.state.specs.Record.{stepNow, isState, updateLengths}
 use Rattle.asynchro.specs.Calls.{construct, firstLengths, setRatio}
 use Rattle.area.specs.Parts.{partsTo, eachPart}

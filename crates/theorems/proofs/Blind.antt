@@ -5,7 +5,7 @@ use Prim.Native.Nat.{ℕ}
 use lib.Ieee.{Float}
 use lib.ListN.{length}
 use Rattle.error.specs.Refusals.{Said, given, refused}
-use Rattle.state.specs.declared.record.State.{State}
+use Rattle.state.specs.declared.State.{State}
 use Rattle.process.specs.Block.{planned, blockEnd, blockOf, resetting, resetEnd, resetOf}
 
 module _ (s : State) (frames mask : ℕ) (input input′ output output′ work work′ : List Float) where

@@ -5,7 +5,7 @@ use Prim.Native.Nat.{_≤_}
 use lib.IntN.{natAbs, _-ℤ_}
 use Rattle.exact.specs.Whole.{Within}
 use Rattle.exact.specs.Integers.{int}
-use Rattle.state.specs.declared.record.State.{State}
+use Rattle.state.specs.declared.State.{State}
 use Rattle.position.specs.History.{Start, Call}
 use Rattle.position.specs.Position.{opened, ledger, stored, bound}
 use Rattle.position.proofs.Drift.{drift}

@@ -14,13 +14,15 @@ use Rattle.interpolation.specs.declared.Times3.{Times3}
 use Rattle.interpolation.specs.declared.Times4.{Times4}
 use Rattle.interpolation.specs.Grid.{saidTimes1, saidTimes2, saidTimes3, saidTimes4}
 use Rattle.interpolation.proofs.Settled.{times1-settled, times2-settled, times3-settled, times4-settled}
-use Rattle.state.specs.declared.record.State.{State}
-use Rattle.state.specs.declared.record.Made.{Made}
+use Rattle.state.specs.declared.State.{State}
+use Rattle.state.specs.declared.Made.{Made}
 use Rattle.asynchro.specs.declared.Outcome.{Outcome}
-use Rattle.asynchro.specs.declared.Count.{Count}
+use Rattle.questions.specs.declared.Count.{Count}
 use Rattle.state.specs.Record.{saidMade}
-use Rattle.asynchro.specs.Calls.{Result, saidCount, resultOf}
-use Rattle.asynchro.proofs.Settled.{made-settled, count-settled, outcome-settled}
+use Rattle.asynchro.specs.Calls.{Result, resultOf}
+use Rattle.questions.specs.Questions.{saidCount}
+use Rattle.asynchro.proofs.Settled.{made-settled, outcome-settled}
+use Rattle.questions.proofs.Settled.{count-settled}
 use Rattle.process.specs.declared.Sizes.{Sizes}
 use Rattle.process.specs.declared.BlockOutcome.{BlockOutcome}
 use Rattle.process.specs.Block.{Block, Reset, blockLeft, resetLeft}

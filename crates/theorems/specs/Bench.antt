@@ -13,9 +13,9 @@ use Rattle.asynchro_fast.specs.declared.PolynomialDegree.the-variants.{Nearest,
 use Rattle.asynchro_sinc.specs.Blends.{blendSaid, sincQuad}
 use Rattle.interpolation.specs.declared.Point.{Point}
 use Rattle.interpolation.specs.Grid.{nearest2, nearest4}
-use Rattle.state.specs.declared.sizes.FixedAsync.{FixedAsync}
-use Rattle.state.specs.declared.sizes.FixedAsync.the-variants.{Input, Output}
-use Rattle.state.specs.declared.record.State.{State}
+use Rattle.sizes.specs.declared.FixedAsync.{FixedAsync}
+use Rattle.sizes.specs.declared.FixedAsync.the-variants.{Input, Output}
+use Rattle.state.specs.declared.State.{State}
 use Rattle.asynchro.specs.Calls.{Result, construct, setRatio}
 use Rattle.process.specs.declared.Sizes.{Sizes}
 use Rattle.process.specs.Block.{Block, strideOf, incrementOf, blockOf}

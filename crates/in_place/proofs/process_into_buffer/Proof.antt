@@ -42,8 +42,8 @@ use denote.Triple.Walked.{says, Stays, stay-ref, stay-none, stay-none-slice, gav
 use denote.Exit.{yes}
 use Rattle.process.specs.Block.{blockOf, blockLeft}
 use Rattle.process.specs.declared.BlockOutcome.{BlockOutcome}
-use Rattle.state.specs.declared.record.State.{State}
-use Rattle.state.proofs.record.State as S
+use Rattle.state.specs.declared.State.{State}
+use Rattle.state.proofs.State as S
 use Rattle.process.proofs.BlockOutcome as B
 use Rattle.process.proofs.BlockOutcome.Laws as B′
 use Rattle.process.proofs.Ran as R

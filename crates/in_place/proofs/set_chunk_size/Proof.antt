@@ -38,9 +38,9 @@ use denote.Triple.Table.{entered, cited}
 use denote.Triple.Walked.{says, Stays, stay-ref, stay-none, walkOf, AllGo, goes-none, goes-ref, Walks, ends-at, walked, walk-meets}
 use denote.Exit.{yes}
 use Rattle.asynchro.specs.Calls.{resultOf, setChunk}
-use Rattle.state.specs.declared.record.State.{State}
+use Rattle.state.specs.declared.State.{State}
 use Rattle.asynchro.specs.declared.Outcome.{Outcome}
-use Rattle.state.proofs.record.State as S
+use Rattle.state.proofs.State as S
 use Rattle.asynchro.proofs.Outcome as O
 use Rattle.asynchro.proofs.Outcome.Laws as O′
 use Rattle.asynchro.proofs.Done as N

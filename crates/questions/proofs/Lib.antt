@@ -1,0 +1,2 @@
+-- Laws of the questions. Assumes nothing.
+pub mod Settled

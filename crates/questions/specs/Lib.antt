@@ -1,0 +1,2 @@
+-- The questions about a ratio state. Definitions only.
+pub mod Questions

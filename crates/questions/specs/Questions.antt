@@ -1,0 +1,17 @@
+-- Document 01, "Refusal numbers": "Questions about a state: 10 only." Definitions only.
+use mathlib.Core.List.{[]}
+use Prim.Native.Nat.{ℕ}
+use Rattle.error.specs.Refusals.{Said, given, refused, unless, numberOf, valuesOf}
+use Rattle.state.specs.declared.State.{State}
+use Rattle.state.specs.Record.{isState}
+use Rattle.questions.specs.declared.Count.{Count}
+use Rattle.questions.specs.declared.Count.the-variants as counted
+
+-- what is asked of a record that passes the StateRecord test
+abbrev pub asked : {A : Type 0} → State → A → Said A
+asked s a = unless (isState s) 10 [] (given a)
+
+-- an answer that is a number, in document 01's words
+abbrev pub saidCount : Count → Said ℕ
+saidCount (counted.Number n) = given n
+saidCount (counted.Refused r) = refused (numberOf r) (valuesOf r)

@@ -1,0 +1,4 @@
+-- Laws of the sizes. Assumes nothing.
+pub mod Constants
+pub mod Truncated
+pub mod Start
