@@ -1,4 +1,3 @@
--- Lent areas: a channel after the other, the mask, moving and reading. Definitions only.
+-- Lent areas: a channel after the other, moving and reading in each. Definitions only.
 pub mod Parts
-pub mod Mask
 pub mod Moves

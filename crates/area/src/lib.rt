@@ -1,15 +1,5 @@
 // The work on lent areas, "channel after channel": moving samples to the front, reading input, zeroing.
 // Only our own crates call these functions, and all but `zero_all` have a `requires`.
-mod channel;
-mod mask;
-
-pub use channel::load;
-pub use channel::load_channel;
-pub use channel::move_channel;
-pub use channel::move_front;
-pub use channel::put;
-pub use mask::is_on;
-pub use mask::mask_fits;
 ghost use mathlib.Core.Path.{_≡_};
 ghost use Prim.Native.Nat.{_+_, _*_, _<_, _≤_};
 ghost use lib.ListN.{length, replicate};
@@ -24,8 +14,8 @@ fn move_part(work: &mut [f64], stride: usize, c: usize, mask: u64, fill: usize, 
     ensures { λ _. ⌜ now (work .exit) ≡ onePart (movedIn mask fill l2) stride c (now (work .entry)) ⌝ }
 {
     let a = c * stride;
-    let on = is_on(mask, c);
-    move_channel(on, &mut work[a..a + stride], fill, l2);
+    let on = channel::is_on(mask, c);
+    channel::move_channel(on, &mut work[a..a + stride], fill, l2);
 }
 
 // The move in each switched-on channel.
@@ -58,8 +48,8 @@ fn load_part(
 {
     let to = c * stride;
     let from = c * share;
-    let on = is_on(mask, c);
-    load_channel(
+    let on = channel::is_on(mask, c);
+    channel::load_channel(
         on,
         &mut work[to..to + stride],
         l2,

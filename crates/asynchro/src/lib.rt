@@ -2,9 +2,9 @@
 // changes", "Refusal numbers".
 use asynchro_fast::PolynomialDegree;
 use error::Refusal;
+use sizes::FixedAsync;
 use state::Made;
 use state::State;
-use sizes::FixedAsync;
 ghost use mathlib.Core.Path.{_≡_};
 ghost use Rattle.exact.specs.Doubles.{aboveZero};
 ghost use Rattle.state.specs.Record.{saidMade};

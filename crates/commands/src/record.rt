@@ -2,7 +2,6 @@
 use crate::said::Said;
 use crate::said::Shown;
 use crate::said::number_in;
-use questions::Count;
 use asynchro::Done;
 use asynchro::Outcome;
 use asynchro_fast::PolynomialDegree;
@@ -10,15 +9,16 @@ use error::Refusal;
 use printer::samples_of;
 use process::BlockOutcome;
 use process::Ran;
+use questions::Count;
 use script::values::count_at;
 use script::values::degree_at;
 use script::values::flag_at;
 use script::values::float_at;
 use script::values::number_at;
 use script::values::side_at;
+use sizes::FixedAsync;
 use state::Made;
 use state::State;
-use sizes::FixedAsync;
 
 // The most samples of an area.
 const MOST: usize = 131072;
@@ -162,7 +162,7 @@ pub fn rec(len: usize, values: &[u64]) -> Change {
 fn copied(input: &[f64], n: usize, work: &mut [f64]) -> usize {
     let most = samples_of(input, n);
     let len = samples_of(work, most);
-    area::load(work, 0, &input[..most], len, len);
+    channel::load(work, 0, &input[..most], len, len);
     len
 }
 

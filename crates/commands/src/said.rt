@@ -1,10 +1,10 @@
 // What a line is answered with: `ok` with what was asked for, `ref` with a refusal's number and floats,
 // or `bad`.
-use questions::Count;
 use error::Answer;
 use error::Refusal;
 use interpolation::Point;
 use process::Sizes;
+use questions::Count;
 
 pub enum Said {
     // The line can't be read.

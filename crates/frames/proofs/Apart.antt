@@ -9,8 +9,8 @@ use lib.ListN.{length, getD, take, drop, List·getD-append}
 use lib.Seq.{paste, length-paste-head, length-take-le, drop-paste, take-append-le, take-at, getD-append-add, getD-take}
 use Rattle.asynchro_fast.specs.declared.PolynomialDegree.{PolynomialDegree}
 use Rattle.area.specs.Parts.{partOf}
-use Rattle.area.specs.Mask.{isOn}
-use Rattle.area.proofs.Switched.{where-on, where-off}
+use Rattle.channel.specs.Mask.{isOn}
+use Rattle.channel.proofs.Switched.{where-on, where-off}
 use Rattle.area.proofs.Parts.{part-long, part-each}
 use Rattle.frames.specs.Run.{framesTo, ranIn, ranAll}
 use Rattle.frames.proofs.Frames.{frameOf, frames-long, frame-at}

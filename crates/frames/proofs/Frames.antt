@@ -10,8 +10,8 @@ use lib.Ieee.{Float, nan}
 use lib.ListN.{length, getD, take, set, length-append, List·getD-append}
 use lib.Seq.{paste, paste-suc, take-append-le, getD-at}
 use Rattle.asynchro_fast.specs.declared.PolynomialDegree.{PolynomialDegree}
-use Rattle.frames.specs.Path.{pathAt}
-use Rattle.frames.specs.Places.{placeOf, shiftOf, lastOf}
+use Rattle.path.specs.Path.{pathAt}
+use Rattle.path.specs.Places.{placeOf, shiftOf, lastOf}
 use Rattle.frames.specs.Run.{valueAt, framesTo}
 
 -- the value of frame f, the first being frame 0

@@ -10,16 +10,16 @@ use lib.ListN.{length, take, drop, set, length-append, length-drop, length-set}
 use lib.Seq.{paste, paste-zero, length-paste, length-take-le}
 use Rattle.asynchro_fast.specs.declared.PolynomialDegree.{PolynomialDegree}
 use Rattle.area.specs.Parts.{partOf}
-use Rattle.area.specs.Mask.{isOn, whereOn}
-use Rattle.area.proofs.Switched.{where-long, where-same}
+use Rattle.channel.specs.Mask.{isOn, whereOn}
+use Rattle.channel.proofs.Switched.{where-long, where-same}
 use Rattle.area.proofs.Parts.{Keeps, part-long, length-each, each-none, each-same, each-each}
 use Rattle.area.proofs.Parted.{Parted, parted-next, lent-is, lent-long, given-back}
-use Rattle.frames.specs.declared.Moment.{Moment}
-use Rattle.frames.specs.declared.Place.{Place}
-use Rattle.frames.specs.Path.{stepIndex, pathAt}
-use Rattle.frames.specs.Places.{placeOf, shiftOf, lastOf}
+use Rattle.path.specs.declared.Moment.{Moment}
+use Rattle.path.specs.declared.Place.{Place}
+use Rattle.path.specs.Path.{stepIndex, pathAt}
+use Rattle.path.specs.Places.{placeOf, shiftOf, lastOf}
 use Rattle.frames.specs.Run.{valueAt, framesTo, wroteIn, wroteAll, ranIn, ranAll}
-use Rattle.frames.proofs.Path.{path-next}
+use Rattle.path.proofs.Path.{path-next}
 use Rattle.frames.proofs.Frames.{frameOf, frames-long, frame-next}
 
 -- ---- one frame in all channels

@@ -1,4 +1,2 @@
--- The index path of a block, Reach, and one frame's value. Definitions only.
-pub mod Path
-pub mod Places
+-- The frames of a block. Definitions only.
 pub mod Run

@@ -9,12 +9,12 @@ use Rattle.asynchro_fast.specs.declared.PolynomialDegree.{PolynomialDegree}
 use Rattle.asynchro_fast.specs.Degrees.{pointsOf}
 use Rattle.asynchro_fast.specs.Kernels.{interpOf}
 use Rattle.area.specs.Parts.{partOf, eachPart}
-use Rattle.area.specs.Mask.{isOn, whereOn}
-use Rattle.frames.specs.declared.Moment.{Moment}
-use Rattle.frames.specs.declared.Place.{Place}
-use Rattle.frames.specs.declared.Place.the-variants.{At, Out}
-use Rattle.frames.specs.Path.{pathAt}
-use Rattle.frames.specs.Places.{placeFrom, placeOf, shiftOf, lastOf}
+use Rattle.channel.specs.Mask.{isOn, whereOn}
+use Rattle.path.specs.declared.Moment.{Moment}
+use Rattle.path.specs.declared.Place.{Place}
+use Rattle.path.specs.declared.Place.the-variants.{At, Out}
+use Rattle.path.specs.Path.{pathAt}
+use Rattle.path.specs.Places.{placeFrom, placeOf, shiftOf, lastOf}
 
 -- a frame's value: the kernel on its L neighbours; out of reach 0.0, where no accepted block comes
 unfoldable pub valueAt : PolynomialDegree → List Float → Place → Float

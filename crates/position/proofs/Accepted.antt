@@ -21,9 +21,9 @@ use Rattle.state.specs.Record.{pointsIn, stepNow, stepThen, inputOf, outputOf, 
 use Rattle.state.proofs.Points.{points-few}
 use Rattle.state.proofs.Valid.{valid}
 use Rattle.error.proofs.Ladder.{accepted}
-use Rattle.frames.specs.Path.{pathAt}
-use Rattle.frames.specs.Places.{shiftOf, lastOf, allReach}
-use Rattle.process.specs.Block.{shapeHolds, incrementOf, reachHolds, afterBlock, planned}
+use Rattle.path.specs.Path.{pathAt}
+use Rattle.path.specs.Places.{shiftOf, lastOf, allReach}
+use Rattle.plan.specs.Plan.{shapeHolds, incrementOf, reachHolds, afterBlock, planned}
 use Rattle.position.specs.History.{Doubles}
 use Rattle.position.specs.Position.{rampOf}
 use Rattle.position.proofs.Amounts.{looser}

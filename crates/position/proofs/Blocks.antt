@@ -13,9 +13,9 @@ use Rattle.exact.specs.Exact.{exact, Number}
 use Rattle.exact.specs.Running.{run, walk, tri}
 use Rattle.exact.proofs.Order.{eq-exact}
 use Rattle.exact.proofs.Running.{tri-is}
-use Rattle.frames.specs.Path.{pathAt}
-use Rattle.frames.specs.Places.{allReach}
-use Rattle.frames.proofs.Bounds.{Placed, reach-placed}
+use Rattle.path.specs.Path.{pathAt}
+use Rattle.path.specs.Places.{allReach}
+use Rattle.path.proofs.Bounds.{Placed, reach-placed}
 use Rattle.position.proofs.Amounts.{zero-exact, count-exact, sub-of}
 use Rattle.position.proofs.Tests.{holds}
 use Rattle.position.proofs.Steps.{Pace, Step, increment-near, steps-near}

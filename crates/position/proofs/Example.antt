@@ -17,9 +17,9 @@ use Rattle.state.specs.declared.State.{State}
 use Rattle.sizes.specs.Sizes.{twoF, startOf, sizeOf, neededInput, neededOutput, maxInput, maxOutput}
 use Rattle.state.specs.Record.{isState, updateLengths}
 use Rattle.asynchro.specs.Calls.{construct, firstLengths}
-use Rattle.frames.specs.Path.{pathAt}
-use Rattle.frames.specs.Places.{placeFrom, allReach}
-use Rattle.process.specs.Block.{planned}
+use Rattle.path.specs.Path.{pathAt}
+use Rattle.path.specs.Places.{placeFrom, allReach}
+use Rattle.plan.specs.Plan.{planned}
 use Rattle.position.specs.History.{Start, constructed, Call, ratio, block}
 use Rattle.position.specs.Position.{opened, Ledger, ledger, stored}
 

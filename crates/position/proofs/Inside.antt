@@ -8,8 +8,8 @@ use Rattle.error.specs.Refusals.{given}
 use Rattle.state.specs.declared.State.{State}
 use Rattle.sizes.specs.Bounds.{isIndex}
 use Rattle.state.specs.Record.{isState}
-use Rattle.process.specs.Block.{afterBlock, planned}
-use Rattle.process.proofs.Keeps.{block-keeps}
+use Rattle.plan.specs.Plan.{afterBlock, planned}
+use Rattle.plan.proofs.Keeps.{block-keeps}
 use Rattle.position.specs.History.{Doubles}
 use Rattle.position.proofs.Tests.{index-is}
 use Rattle.position.proofs.Accepted.{Passed, passed, moved}

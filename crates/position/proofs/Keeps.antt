@@ -16,7 +16,8 @@ use Rattle.sizes.specs.Sizes.{twoF, startOf}
 use Rattle.state.specs.Record.{pointsIn, maximaHold, isState, updateLengths}
 use Rattle.asynchro.specs.Calls.{endOf, freshState, withFill, filled, firstLengths, construct, relativeHolds, withRatio, applied, setRatio, setRelative, withChunk, chunked, setChunk}
 use Rattle.error.proofs.Ladder.{accepted}
-use Rattle.process.specs.Block.{workHolds, indexAfter, restored, resetting, resetEnd}
+use Rattle.plan.specs.Plan.{workHolds, indexAfter, restored, resetting}
+use Rattle.process.specs.Block.{resetEnd}
 use Rattle.position.specs.History.{Double, Doubles, Start, constructed, restarted}
 use Rattle.position.proofs.Accepted.{sizes-given, Passed}
 

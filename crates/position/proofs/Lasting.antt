@@ -9,7 +9,8 @@ use Rattle.error.specs.Refusals.{Said, given, refused}
 use Rattle.state.specs.declared.State.{State}
 use Rattle.state.specs.Record.{isState}
 use Rattle.asynchro.proofs.Keeps.{ratio-keeps, relative-keeps, chunk-keeps, construct-keeps}
-use Rattle.process.specs.Block.{planned, blockEnd}
+use Rattle.plan.specs.Plan.{planned}
+use Rattle.process.specs.Block.{blockEnd}
 use Rattle.process.proofs.Keeps.{reset-leaves}
 use Rattle.position.specs.History.{Doubles, Start, constructed, restarted, Call, ratio, relative, chunk, block, after}
 use Rattle.position.specs.Position.{Account, opened, accounted, ledger}

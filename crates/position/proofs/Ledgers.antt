@@ -9,7 +9,8 @@ use Rattle.exact.specs.Whole.{Whole, _⊕_, Within}
 use Rattle.exact.specs.Exact.{exact}
 use Rattle.error.specs.Refusals.{Said, given, refused}
 use Rattle.state.specs.declared.State.{State}
-use Rattle.process.specs.Block.{afterBlock, planned, sizesOf, blockEnd}
+use Rattle.plan.specs.Plan.{afterBlock, planned}
+use Rattle.process.specs.Block.{sizesOf, blockEnd}
 use Rattle.position.specs.History.{Doubles, Call, ratio, relative, chunk, block, after}
 use Rattle.position.specs.Position.{Account, opened, exactMove, rampOf, added, accounted, ledger, stored, bound}
 use Rattle.position.proofs.Accepted.{Passed, passed, moved}

@@ -10,7 +10,7 @@ use Rattle.exact.specs.Exact.{exact, Number}
 use Rattle.exact.specs.Rounding.{slack}
 use Rattle.exact.specs.Running.{run, walk, tri}
 use Rattle.exact.proofs.Sums.{add-is, add-near, bound-of}
-use Rattle.frames.specs.Path.{pathAt}
+use Rattle.path.specs.Path.{pathAt}
 
 -- ---- the path is the running sum
 pub path-step : (t d i : Float) (f : ℕ) → pathAt t d i f .step ≡ run binary64 f t d

@@ -12,7 +12,8 @@ use Rattle.error.specs.Refusals.{Said, given, refused}
 use Rattle.state.specs.declared.State.{State}
 use Rattle.state.specs.Record.{stepNow}
 use Rattle.process.specs.declared.Sizes.{Sizes}
-use Rattle.process.specs.Block.{incrementOf, blockOf}
+use Rattle.plan.specs.Plan.{incrementOf}
+use Rattle.process.specs.Block.{blockOf}
 use Rattle.position.specs.History.{Call, ratio, relative, chunk, block, after}
 
 -- what is added up along a history: the exact position, the input sizes answered, the output frames N, the accepted blocks B, and the ramps' part of the bound

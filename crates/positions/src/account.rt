@@ -92,7 +92,7 @@ fn added(a: Account, next: State, used: u64, n: u32) -> Account
     requires { ⌜ n ≤ 65536 ⌝ }
 {
     let s = a.state;
-    let d = process::t_ratio_increment(s);
+    let d = plan::t_ratio_increment(s);
     let FromDouble::Units(step) = exact_move(state::step_now(s), d, n) else {
         return failed(a);
     };

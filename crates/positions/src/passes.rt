@@ -1,10 +1,10 @@
 // The passes: each a record, its settings, and its blocks.
 use crate::account::Account;
-use questions::Count;
 use asynchro_fast::PolynomialDegree;
+use questions::Count;
+use sizes::FixedAsync;
 use state::Made;
 use state::State;
-use sizes::FixedAsync;
 ghost use Prim.Native.Nat.{_≤_};
 
 // A ramp to the one ratio of the first pass.

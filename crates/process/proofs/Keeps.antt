@@ -1,79 +1,17 @@
--- What an accepted block or reset leaves passes the StateRecord test. Assumes nothing.
+-- What an accepted reset leaves passes the StateRecord test. Assumes nothing.
 use mathlib.Core.Bool.{true}
 use mathlib.Core.List.{List}
 use mathlib.Core.Path.{_≡_, refl}
 use Prim.Native.Nat.{ℕ}
-use native.Mathlib.Nat.{le-refl, le-trans}
 use native.Mathlib.Omega.{arith}
-use borrow.Author.Tests.{le-leb}
 use lib.Ieee.{Float}
 use lib.ListN.{length}
 use Rattle.error.specs.Refusals.{Said, given, refused}
 use Rattle.state.specs.declared.State.{State}
-use Rattle.sizes.specs.Bounds.{isIndex, isChannels, isChunk}
-use Rattle.state.specs.Record.{pointsIn, isState}
-use Rattle.state.proofs.Points.{points-few}
-use Rattle.sizes.proofs.Start.{start-inside}
-use Rattle.state.proofs.Valid.{join, Ready, tests, valid}
-use Rattle.error.proofs.Ladder.{accepted}
-use Rattle.state.proofs.Keeps.{update-keeps}
-use Rattle.process.specs.declared.Sizes.{Sizes}
-use Rattle.process.specs.Block.{workHolds, shapeHolds, reachHolds, afterBlock, planned, blockEnd, blockOf, restored, resetting, resetEnd, resetOf}
-
--- ---- the block: the fill becomes the needed input, which the maximum holds; the current ratio becomes the target
-block-ready : (s : State) → isState s ≡ true → isIndex (afterBlock s .index) ≡ true → Ready (afterBlock s)
-block-ready s h index-inside =
-    let v = valid s h in
-    let t = tests s h in
-    record {
-      counts = t .0 .counts;
-      ratios = join (join (join (v .original-ratio) (v .target-ratio)) (v .target-ratio)) (v .m-holds);
-      maxima = t .0 .maxima;
-      fill = t .1 .input-most;
-      index = index-inside;
-    }
-
-pub block-keeps : (s t : State) (frames mask input output work : ℕ) → (index-inside : isIndex (afterBlock s .index) ≡ true)
-    → planned s frames mask input output work ≡ given t → isState t ≡ true
-unfolding planned
-block-keeps s t frames mask input output work index-inside e =
-    let a = accepted (isState s) _ _ _ t e in
-    let b = accepted (shapeHolds s frames mask input output work) _ _ _ t (a .1) in
-    let c = accepted (reachHolds s) _ _ _ t (b .1) in
-    update-keeps (afterBlock s) t (block-ready s (a .0) index-inside) (c .1)
-
--- the same of the outcome: a block that answers its sizes
-pub block-leaves : (s : State) (frames mask : ℕ) (input output work : List Float) (z : Sizes) → (index-inside : isIndex (afterBlock s .index) ≡ true)
-    → blockOf s frames mask input output work .said ≡ given z → isState (blockOf s frames mask input output work .state) ≡ true
-block-leaves s frames mask input output work z index-inside e = go (planned s frames mask (length input) (length output) (length work)) refl e
-  where
-    go : (d : Said State) → planned s frames mask (length input) (length output) (length work) ≡ d
-        → blockEnd s frames mask input output work d .said ≡ given z → isState (blockEnd s frames mask input output work d .state) ≡ true
-    go (given t) p e = block-keeps s t frames mask (length input) (length output) (length work) index-inside p
-    go (refused n vs) p e = absurd (let z : _≡_ {A = ℕ} 0 1 = cc in omega arith)
-
--- ---- reset: the chunk becomes the construction chunk, the ratios the original, the index the start
-reset-ready : (s : State) → isState s ≡ true → Ready (restored s)
-reset-ready s h =
-    let v = valid s h in
-    let t = tests s h .0 in
-    let channels : isChannels (s .channels) ≡ true = join (le-leb 1 (s .channels) (v .channels-some)) (le-leb (s .channels) 16 (v .channels-few)) in
-    let chunk : isChunk (s .chunk0) ≡ true = join (le-leb 1 (s .chunk0) (le-trans (v .chunk-some) (v .chunk-most))) (le-leb (s .chunk0) 65536 (v .chunk0-few)) in
-    let r = v .original-ratio in
-    record {
-      counts = join (join (join channels chunk) chunk) (le-leb (s .chunk0) (s .chunk0) (le-refl (s .chunk0)));
-      ratios = join (join (join r r) r) (v .m-holds);
-      maxima = t .maxima;
-      fill = t .fill;
-      index = start-inside (pointsIn s) (omega (arith, points-few (s .degree)));
-    }
-
-pub reset-keeps : (s t : State) (work : ℕ) → resetting s work ≡ given t → isState t ≡ true
-unfolding resetting
-reset-keeps s t work e =
-    let a = accepted (isState s) _ _ _ t e in
-    let b = accepted (workHolds s work) _ _ _ t (a .1) in
-    update-keeps (restored s) t (reset-ready s (a .0)) (b .1)
+use Rattle.state.specs.Record.{isState}
+use Rattle.plan.specs.Plan.{resetting}
+use Rattle.plan.proofs.Keeps.{reset-keeps}
+use Rattle.process.specs.Block.{resetEnd, resetOf}
 
 pub reset-leaves : (s : State) (work : List Float) → resetOf s work .said ≡ given tt → isState (resetOf s work .state) ≡ true
 reset-leaves s work e = go (resetting s (length work)) refl e

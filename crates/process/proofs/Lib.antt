@@ -1,5 +1,4 @@
 -- Laws of the block run and of reset. Assumes nothing.
-pub mod Shape
 pub mod Written
 pub mod Keeps
 pub mod Settled

@@ -1,43 +1,23 @@
--- The parts of a block joined: the increment, what the second pass leaves, and the outcome of each way out. Assumes nothing.
-use mathlib.Core.Bool.{Bool, true}
+-- The parts of a block joined: what the second pass leaves, and the outcome of each way out. Assumes nothing.
+use mathlib.Core.Bool.{true}
 use mathlib.Core.List.{List}
 use mathlib.Core.Path.{_≡_, sym, ap, _∙_}
 use Prim.Native.Nat.{ℕ, _*_, _/_}
-use borrow.Author.Tests.{eq-eqb, ne-eqb}
 use lib.Ieee.{Float}
 use lib.ListN.{length, replicate}
-use Rattle.exact.specs.Doubles.{_-f_, _/f_, count, zeroF}
+use Rattle.exact.specs.Doubles.{zeroF}
 use Rattle.error.specs.declared.Refusal.{Refusal}
 use Rattle.state.specs.declared.State.{State}
 use Rattle.state.specs.declared.Made.{Made}
 use Rattle.state.specs.declared.Made.the-variants as made
 use Rattle.asynchro.specs.declared.Done.the-variants as done
-use Rattle.sizes.specs.Sizes.{startOf}
-use Rattle.state.specs.Record.{pointsIn, stepNow, stepThen, isState, changed, saidMade}
+use Rattle.state.specs.Record.{pointsIn, stepNow, isState, saidMade}
 use Rattle.error.proofs.Ladder.{accepted}
 use Rattle.area.specs.Moves.{movedAll, loadedAll}
-use Rattle.frames.specs.Path.{pathAt}
-use Rattle.frames.specs.Places.{shiftOf, lastOf, allReach}
 use Rattle.frames.specs.Run.{ranAll}
 use Rattle.process.specs.declared.Ran.the-variants as ran
-use Rattle.process.specs.Block.{readOf, strideOf, shapeHolds, incrementOf, reachHolds, indexAfter, afterBlock, planned, workAfter, outputAfter, sizesOf, blockEnd, blockOf, blockLeft, restored, resetting, resetEnd, resetOf, resetLeft}
-
--- ---- the ramp's increment
-pub increment-none : (s : State) → s .output ≡ 0 → zeroF ≡ incrementOf s
-increment-none s h = rw (eq-eqb (s .output) 0 h)
-
-pub increment-some : (s : State) (t u n : Float) → (s .output ≡ 0 → ⊥) → t ≡ stepNow s → u ≡ stepThen s → n ≡ count (s .output) → (u -f t) /f n ≡ incrementOf s
-increment-some s t u n h a b e = rw (ne-eqb (s .output) 0 h, a, b, e)
-
--- ---- the first pass
-pub look-is : (s : State) (t d i : Float) (b : Bool) → t ≡ stepNow s → d ≡ incrementOf s
-    → b ≡ allReach (shiftOf (s .degree)) (lastOf (s .degree) (s .input)) t d (s .index) (s .output) → i ≡ pathAt t d (s .index) (s .output) .index
-    → (b ≡ reachHolds s) × (i ≡ indexAfter s)
-look-is s t d i b e f g h = (rw (g, e, f), rw (h, e, f))
-
-pub after-is : (s : State) (i n : Float) → i ≡ indexAfter s → n ≡ count (s .input)
-    → changed s (s .chunk) (s .input) (s .output) (s .input) (i -f n) (s .target) (s .target) ≡ afterBlock s
-after-is s i n h e = rw (h, e)
+use Rattle.plan.specs.Plan.{readOf, strideOf, shapeHolds, incrementOf, planned, resetting}
+use Rattle.process.specs.Block.{workAfter, outputAfter, sizesOf, blockEnd, blockOf, blockLeft, resetEnd, resetOf, resetLeft}
 
 -- ---- the second pass
 module _ (s : State) (frames mask : ℕ) (input : List Float) (at : ℕ) (work : List Float) where
@@ -71,11 +51,7 @@ module _ (s : State) (frames mask : ℕ) (input output work : List Float) (m : M
       let b = accepted (shapeHolds s frames mask (length input) (length output) (length work)) _ _ _ t (a .1) in
       (a .0, b .0)
 
--- ---- reset: the record to come, and its two ways out
-pub restored-is : (s : State) (l : ℕ) (i : Float) → l ≡ pointsIn s → i ≡ startOf l
-    → changed s (s .chunk0) (s .input) (s .output) (s .fill) i (s .original) (s .original) ≡ restored s
-restored-is s l i h e = rw (e, h)
-
+-- ---- the two ways out of a reset
 module _ (s : State) (work : List Float) (m : Made) (e : saidMade m ≡ resetting s (length work)) where
   pub reset-refused : (r : Refusal) → m ≡ made.Refused r → resetLeft (record { state = s; answer = done.Refused r }) work ≡ resetOf s work
   reset-refused r h = ap (resetEnd s work) (ap saidMade (sym h) ∙ e)

@@ -189,7 +189,7 @@ fn logged(t: Totals, s: State, block: u64, index: f64, files: Files) -> Totals {
         input: s.input as u64,
         output: s.output as u64,
         step: state::step_now(s),
-        increment: process::t_ratio_increment(s),
+        increment: plan::t_ratio_increment(s),
         index,
         frames: t.output,
         blocks: t.blocks,

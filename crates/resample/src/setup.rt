@@ -1,5 +1,4 @@
 // The record that the words ask for, the changes of its ratio, and how large the areas of a pass are.
-use questions::Count;
 use asynchro::Done;
 use asynchro::Outcome;
 use asynchro_fast::PolynomialDegree;
@@ -10,9 +9,10 @@ use options::say_number;
 use options::say_refused;
 use options::say_start;
 use pass::samples_in;
+use questions::Count;
+use sizes::FixedAsync;
 use state::Made;
 use state::State;
-use sizes::FixedAsync;
 
 // A record after the changes before a block; `good` is false where one was refused.
 pub struct Changed {
@@ -80,7 +80,7 @@ fn mask_holds(mask: u64, channels: usize) -> bool {
     if channels >= 64 {
         return false;
     }
-    area::mask_fits(mask, channels)
+    channel::mask_fits(mask, channels)
 }
 
 fn number_in(count: Count) -> usize {

@@ -1,8 +1,8 @@
 // The state record: its sizes, the StateRecord test, and the one end of every call.
-use sizes::FixedAsync;
-use sizes::Size;
 use asynchro_fast::PolynomialDegree;
 use error::Refusal;
+use sizes::FixedAsync;
+use sizes::Size;
 ghost use mathlib.Core.Path.{_≡_};
 ghost use Rattle.exact.specs.Doubles.{atLeastOne};
 ghost use Rattle.sizes.specs.Bounds.{isRatio, isChannels, isChunk, isIndex};

@@ -14,8 +14,9 @@ use Rattle.area.specs.Moves.{movedIn, loadedIn, movedAll}
 use Rattle.area.proofs.Parts.{Keeps, length-each, each-apart}
 use Rattle.area.proofs.Moves.{movedIn-keeps, loadedIn-keeps, loadedIn-apart}
 use Rattle.frames.proofs.Apart.{run-apart}
-use Rattle.process.specs.Block.{readOf, strideOf, incrementOf, planned, workAfter, outputAfter, blockEnd, blockOf}
-use Rattle.process.proofs.Shape.{Shaped, shaped}
+use Rattle.plan.specs.Plan.{readOf, strideOf, incrementOf, planned}
+use Rattle.process.specs.Block.{workAfter, outputAfter, blockEnd, blockOf}
+use Rattle.plan.proofs.Shape.{Shaped, shaped}
 
 -- one record, frames given and mask; two blocks whose areas have the same lengths
 module _ (s : State) (frames mask : ℕ) (input input′ output output′ work work′ : List Float)

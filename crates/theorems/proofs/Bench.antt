@@ -18,12 +18,13 @@ use Rattle.sizes.specs.Sizes.{sizeOf, neededInput, neededOutput, maxInput, maxO
 use Rattle.state.specs.Record.{stepNow, isState, updateLengths}
 use Rattle.asynchro.specs.Calls.{construct, firstLengths, setRatio}
 use Rattle.area.specs.Parts.{partsTo, eachPart}
-use Rattle.area.specs.Moves.{moved, loaded}
-use Rattle.frames.specs.Path.{pathAt}
-use Rattle.frames.specs.Places.{shiftOf, lastOf, placeFrom, allReach}
+use Rattle.channel.specs.Moves.{moved, loaded}
+use Rattle.path.specs.Path.{pathAt}
+use Rattle.path.specs.Places.{shiftOf, lastOf, placeFrom, allReach}
 use Rattle.frames.specs.Run.{valueAt, framesTo}
-use Rattle.frames.proofs.Front.{reachFrom, reach-from}
-use Rattle.process.specs.Block.{shapeHolds, incrementOf, reachHolds, planned, workAfter, outputAfter, blockEnd}
+use Rattle.path.proofs.Front.{reachFrom, reach-from}
+use Rattle.plan.specs.Plan.{shapeHolds, incrementOf, reachHolds, planned}
+use Rattle.process.specs.Block.{workAfter, outputAfter, blockEnd}
 use Rattle.theorems.specs.Bench.{Case, case-1, case-2, case-3, case-4, case-5, case-6, case-7, case-8, case-9, case-10, case-11, case-12, bench, built, saidItems, first, after, silence, zeros, blockOn, blockSaid, sixteenthF, Item, size, refusal}
 
 abbrev pub Holds : Case → Type 0

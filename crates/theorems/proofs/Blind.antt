@@ -6,7 +6,8 @@ use lib.Ieee.{Float}
 use lib.ListN.{length}
 use Rattle.error.specs.Refusals.{Said, given, refused}
 use Rattle.state.specs.declared.State.{State}
-use Rattle.process.specs.Block.{planned, blockEnd, blockOf, resetting, resetEnd, resetOf}
+use Rattle.plan.specs.Plan.{planned, resetting}
+use Rattle.process.specs.Block.{blockEnd, blockOf, resetEnd, resetOf}
 
 module _ (s : State) (frames mask : ℕ) (input input′ output output′ work work′ : List Float) where
   -- the end of a block by what was planned

@@ -18,7 +18,8 @@ use Rattle.sizes.specs.declared.FixedAsync.the-variants.{Input, Output}
 use Rattle.state.specs.declared.State.{State}
 use Rattle.asynchro.specs.Calls.{Result, construct, setRatio}
 use Rattle.process.specs.declared.Sizes.{Sizes}
-use Rattle.process.specs.Block.{Block, strideOf, incrementOf, blockOf}
+use Rattle.plan.specs.Plan.{strideOf, incrementOf}
+use Rattle.process.specs.Block.{Block, blockOf}
 
 -- what a case speaks of: sizes, doubles, grid points, refusals
 pub data Item : Type 0 where

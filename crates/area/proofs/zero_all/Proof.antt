@@ -2,7 +2,7 @@
 use borrow.Author.Needs.{needs}
 use denote.Ref.{now}
 use Rattle.exact.specs.Doubles.{zeroF}
-use Rattle.area.proofs.Pasted.{filled-whole}
+use Rattle.channel.proofs.Pasted.{filled-whole}
 use Rattle.area.proofs.zero_all.Statement.{statement}
 use Rattle.area.proofs.zero_all.Tie as tie
 

@@ -4,7 +4,7 @@ use native.Mathlib.Omega.{arith}
 use borrow.Author.Needs.{needs}
 use denote.Ref.{now}
 use mathlib.Core.Path.{_∙_, sym}
-use Rattle.frames.proofs.Places.{shift-small, last-small, place-same, place-reach}
+use Rattle.path.proofs.Places.{shift-small, last-small, place-same, place-reach}
 use Rattle.frames.proofs.Run.{Ran, ran-none, ran-next, ran-done}
 use Rattle.frames.proofs.run_all.Statement.{statement}
 use Rattle.frames.proofs.run_all.Tie as tie

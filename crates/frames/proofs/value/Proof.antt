@@ -5,7 +5,8 @@ use borrow.Author.Needs.{needs}
 use denote.Ref.{now}
 use lib.ListN.{length}
 use Rattle.asynchro_fast.specs.Degrees.{pointsOf}
-use Rattle.frames.proofs.Places.{reach-at, value-at, value-out}
+use Rattle.path.proofs.Places.{reach-at}
+use Rattle.frames.proofs.Values.{value-at, value-out}
 use Rattle.frames.proofs.value.Statement.{statement}
 use Rattle.frames.proofs.value.Tie as tie
 

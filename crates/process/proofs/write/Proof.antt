@@ -3,7 +3,7 @@ use mathlib.Core.Path.{refl, _∙_}
 use borrow.Author.Needs.{needs}
 use denote.Ref.{now}
 use Rattle.state.proofs.Valid.{valid}
-use Rattle.process.proofs.Shape.{shaped, move-asks, load-asks, run-asks}
+use Rattle.plan.proofs.Shape.{shaped, move-asks, load-asks, run-asks}
 use Rattle.process.proofs.Written.{work-is, output-is}
 use Rattle.process.proofs.write.Statement.{statement}
 use Rattle.process.proofs.write.Tie as tie

@@ -1,0 +1,4 @@
+-- Laws of one channel's share. Assumes nothing.
+pub mod Pasted
+pub mod Switched
+pub mod Moves

@@ -1,0 +1,6 @@
+-- Laws of the index path and of places. Assumes nothing.
+pub mod Floors
+pub mod Places
+pub mod Path
+pub mod Front
+pub mod Bounds

@@ -1,0 +1,4 @@
+-- Laws of the plan of a block and of a reset. Assumes nothing.
+pub mod Shape
+pub mod Planned
+pub mod Keeps

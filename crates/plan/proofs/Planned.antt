@@ -1,0 +1,35 @@
+-- The parts of a plan joined: the increment, the path, the record that a block or a reset leaves. Assumes nothing.
+use mathlib.Core.Bool.{Bool}
+use mathlib.Core.Path.{_≡_}
+use Prim.Native.Nat.{ℕ}
+use borrow.Author.Tests.{eq-eqb, ne-eqb}
+use lib.Ieee.{Float}
+use Rattle.exact.specs.Doubles.{_-f_, _/f_, count, zeroF}
+use Rattle.sizes.specs.Sizes.{startOf}
+use Rattle.state.specs.declared.State.{State}
+use Rattle.state.specs.Record.{pointsIn, stepNow, stepThen, changed}
+use Rattle.path.specs.Path.{pathAt}
+use Rattle.path.specs.Places.{shiftOf, lastOf, allReach}
+use Rattle.plan.specs.Plan.{incrementOf, reachHolds, indexAfter, afterBlock, restored}
+
+-- ---- the ramp's increment
+pub increment-none : (s : State) → s .output ≡ 0 → zeroF ≡ incrementOf s
+increment-none s h = rw (eq-eqb (s .output) 0 h)
+
+pub increment-some : (s : State) (t u n : Float) → (s .output ≡ 0 → ⊥) → t ≡ stepNow s → u ≡ stepThen s → n ≡ count (s .output) → (u -f t) /f n ≡ incrementOf s
+increment-some s t u n h a b e = rw (ne-eqb (s .output) 0 h, a, b, e)
+
+-- ---- the first pass
+pub look-is : (s : State) (t d i : Float) (b : Bool) → t ≡ stepNow s → d ≡ incrementOf s
+    → b ≡ allReach (shiftOf (s .degree)) (lastOf (s .degree) (s .input)) t d (s .index) (s .output) → i ≡ pathAt t d (s .index) (s .output) .index
+    → (b ≡ reachHolds s) × (i ≡ indexAfter s)
+look-is s t d i b e f g h = (rw (g, e, f), rw (h, e, f))
+
+pub after-is : (s : State) (i n : Float) → i ≡ indexAfter s → n ≡ count (s .input)
+    → changed s (s .chunk) (s .input) (s .output) (s .input) (i -f n) (s .target) (s .target) ≡ afterBlock s
+after-is s i n h e = rw (h, e)
+
+-- ---- reset
+pub restored-is : (s : State) (l : ℕ) (i : Float) → l ≡ pointsIn s → i ≡ startOf l
+    → changed s (s .chunk0) (s .input) (s .output) (s .fill) i (s .original) (s .original) ≡ restored s
+restored-is s l i h e = rw (e, h)

@@ -1,0 +1,50 @@
+-- `plan::plan_reset` meets its contract: the refusals in their order, then the record. Assumes nothing.
+use mathlib.Core.Path.{ap, _∙_}
+use borrow.Author.Needs.{needs}
+use Rattle.error.proofs.Ladder.{pass, stop, failed, passed}
+use Rattle.state.specs.Record.{updateLengths}
+use Rattle.plan.specs.Plan.{resetting}
+use Rattle.plan.proofs.plan_reset.Statement.{statement}
+use Rattle.plan.proofs.plan_reset.Tie as tie
+
+is-state-requires : tie.Need-is-state-requires
+is-state-requires c κs = search needs
+
+returns : tie.Need-returns
+unfolding resetting
+returns c = stop _ _ _ _ (failed (c .before .is-state .ensures) (c .if1 .taken))
+
+work-holds-requires : tie.Need-work-holds-requires
+work-holds-requires c κs = passed (c .before .is-state .ensures) (c .if1 .left)
+
+returns-2 : tie.Need-returns-2
+unfolding resetting
+returns-2 c =
+    pass _ _ _ _ _ (passed (c .before .before .before .is-state .ensures) (c .before .before .if1 .left)) (
+    stop _ _ _ _ (failed (c .before .work-holds .ensures) (c .if2 .taken)))
+
+restored-state-requires : tie.Need-restored-state-requires
+restored-state-requires c κs = search needs
+
+update-lengths-requires : tie.Need-update-lengths-requires
+update-lengths-requires c κs = search needs
+
+returns-3 : tie.Need-returns-3
+unfolding resetting
+returns-3 c =
+    let t = c .before .before in
+    pass _ _ _ _ _ (passed (t .before .before .before .is-state .ensures) (t .before .before .if1 .left)) (
+    pass _ _ _ _ _ (passed (t .before .work-holds .ensures) (t .if2 .left)) (
+    c .update-lengths .ensures ∙ ap updateLengths (c .before .restored-state .ensures)))
+
+pub plan-reset-spec : {M : Type 1} → statement M
+plan-reset-spec =
+    tie.close
+    (tie.spec
+    is-state-requires
+    returns
+    work-holds-requires
+    returns-2
+    restored-state-requires
+    update-lengths-requires
+    returns-3)
