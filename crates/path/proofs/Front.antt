@@ -1,5 +1,4 @@
--- The index path and Reach from the front, in one pass: what a computed case of many frames uses. By their definitions, which go from the back, the cost is quadratic.
--- Assumes nothing.
+-- Reach from the front, in one pass: what a computed case of many frames uses. By its definition, which goes from the back, the cost is quadratic. Assumes nothing.
 use mathlib.Core.Bool.{Bool, true, _&&_, and-true, and-assoc}
 use mathlib.Core.Path.{_≡_, refl, sym, ap, _∙_}
 use Prim.Native.Nat.{ℕ, zero, suc}
@@ -8,12 +7,6 @@ use Rattle.exact.specs.Doubles.{_+f_}
 use Rattle.path.specs.declared.Moment.{Moment}
 use Rattle.path.specs.Path.{stepIndex, pathAt}
 use Rattle.path.specs.Places.{placeFrom, placeOf, isAt, allReach}
-
-unfoldable pub pathFrom : Float → Float → Float → ℕ → Moment
-pathFrom t d i zero = record { index = i; step = t }
-pathFrom t d i (suc n) =
-    let u = t +f d in
-    pathFrom u d (i +f u) n
 
 unfoldable pub reachFrom : ℕ → ℕ → Float → Float → Float → ℕ → Bool
 unfolding placeFrom
@@ -24,15 +17,10 @@ reachFrom shift last t d i (suc n) =
     isAt (placeOf shift last j) && reachFrom shift last u d j n
 
 -- one frame later, from where the first frame left off
-pub path-shift : (t d i : Float) (f : ℕ) → pathAt (t +f d) d (i +f (t +f d)) f ≡ pathAt t d i (suc f)
+path-shift : (t d i : Float) (f : ℕ) → pathAt (t +f d) d (i +f (t +f d)) f ≡ pathAt t d i (suc f)
 unfolding pathAt
 path-shift t d i zero = refl
 path-shift t d i (suc f) = ap (stepIndex d) (path-shift t d i f)
-
-pub path-from : (t d i : Float) (n : ℕ) → pathFrom t d i n ≡ pathAt t d i n
-unfolding pathFrom pathAt
-path-from t d i zero = refl
-path-from t d i (suc n) = path-from (t +f d) d (i +f (t +f d)) n ∙ path-shift t d i n
 
 module _ (shift last : ℕ) where
   reach-shift : (t d i : Float) (f : ℕ)
