@@ -1,5 +1,5 @@
 -- Which numbers the doubles of specs/Doubles.antt are. Assumes nothing.
-use mathlib.Core.Bool.{true, false}
+use mathlib.Core.Bool.{false}
 use mathlib.Core.Path.{_≡_, refl}
 use lib.IntN.{pos, negsuc}
 use lib.Ieee.{inf, fin, div, ofBits}

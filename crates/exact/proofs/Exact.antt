@@ -30,12 +30,16 @@ down-le f s m e t =
     leb→le (down e) (2 ^ low f) (and-r (eqb (suc m % 2) 1 && ltb (suc m) (2 ^ prec f)) (leb (down e) (2 ^ low f))
     (and-l (eqb (suc m % 2) 1 && ltb (suc m) (2 ^ prec f) && leb (down e) (2 ^ low f)) (ltb (suc m * up e) (2 ^ suc (emax f) * down e)) t))
 
+-- of a fraction that fits, the exponent is one of the format's
+pub places-le : (f : Format) (s : Bool) (m k : ℕ) → T (fits f (fin s (suc m) (negsuc k))) → suc k ≤ low f
+places-le f s m k t = exponent-le (suc k) (low f) (down-le f s m (negsuc k) t)
+
 pub mag-exact : (f : Format) (x : Float) → T (fits f x) → mag f x * den x ≡ num x * 2 ^ low f
 mag-exact f nan t = mul-one _ ∙ div-one _
 mag-exact f (inf s) t = mul-one _ ∙ div-one _
 mag-exact f (fin s zero e) t = simp (zero-mul, zero-div)
 mag-exact f (fin s (suc m) (pos k)) t = mul-one _ ∙ div-one _
-mag-exact f (fin s (suc m) (negsuc k)) t = divides (suc m * 1) (suc k) (low f) (exponent-le (suc k) (low f) (down-le f s m (negsuc k) t))
+mag-exact f (fin s (suc m) (negsuc k)) t = divides (suc m * 1) (suc k) (low f) (places-le f s m k t)
 
 -- ---- a value that is known as a fraction over 2 ^ low
 pub exact-of : (f : Format) (x : Float) (s : Bool) (g : ℕ) → HasValue x s g (2 ^ low f) → exact f x ≡ signed s g

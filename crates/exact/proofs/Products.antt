@@ -100,11 +100,11 @@ div-near f k (fin s m e) (fin t n d) p q l h i = go (eqb n 0) (eqb→eq n 0)
         subst (λ (z : Float). Number f z × Within (b * slack f k) (signed t b ⊗ exact f z) (L ⊙ signed s a)) (sym is)
         (r .0, quotient-sign s t a b (b * slack f k) L (exact f (round f (unlike s t) a b)) (r .1))
 
--- ---- a whole number up to 2 ^ prec, as a float
-whole-exact : (f : Format) (x : Float) (s : Bool) (n : ℕ) → HasValue x s n 1 → exact f x ≡ signed s (n * 2 ^ low f)
-whole-exact f nan s n h = absurd h
-whole-exact f (inf t) s n h = absurd h
-whole-exact f (fin t m e) s n h = exact-of f (fin t m e) s (n * 2 ^ low f) (h .0, ap (λ (z : ℕ). z * 2 ^ low f) (sym (mul-one (m * up e)) ∙ h .1) ∙ mul-right-comm n (down e) (2 ^ low f))
+-- ---- a whole number, as a float; each up to 2 ^ prec is one
+pub ones-exact : (f : Format) (x : Float) (s : Bool) (n : ℕ) → HasValue x s n 1 → exact f x ≡ signed s (n * 2 ^ low f)
+ones-exact f nan s n h = absurd h
+ones-exact f (inf t) s n h = absurd h
+ones-exact f (fin t m e) s n h = exact-of f (fin t m e) s (n * 2 ^ low f) (h .0, ap (λ (z : ℕ). z * 2 ^ low f) (sym (mul-one (m * up e)) ∙ h .1) ∙ mul-right-comm n (down e) (2 ^ low f))
 
 pub int-exact : (f : Format) (s : Bool) (n : ℕ) → n ≤ 2 ^ prec f → exact f (round f s n 1) ≡ signed s (n * 2 ^ low f)
-int-exact f s n h = whole-exact f (round f s n 1) s n (round-whole f s n h)
+int-exact f s n h = ones-exact f (round f s n 1) s n (round-whole f s n h)

@@ -159,7 +159,7 @@ round-finite f s num den t =
     let v = units-val f s q k (units-under f s q k (subst (λ (z : Float). T (finite z)) (round-is f s num den) t)) in
     exact-of f (round f s num den) s (q * 2 ^ k) (subst (λ (z : Float). HasValue z s (q * 2 ^ k) (2 ^ low f)) (sym (round-is f s num den)) v)
 
-signed-below : (s : Bool) (a b : ℕ) → Below b (signed s a) → a < b
+pub signed-below : (s : Bool) (a b : ℕ) → Below b (signed s a) → a < b
 signed-below false a b h = omega arith
 signed-below true a b h = omega arith
 
@@ -167,38 +167,3 @@ pub round-bound : (f : Format) (s : Bool) (num den j : ℕ) → 0 < den → T (f
 round-bound f s num den j D t h =
     let b = signed-below s (grid f num den) (2 ^ j) (subst (λ (v : Whole). Below (2 ^ j) v) (round-finite f s num den t) h) in
     lt-of-not-le (λ (g : 2 ^ j * den ≤ num * 2 ^ low f). not-le-of-lt b (grid-ge (prec f) (num * 2 ^ low f) den j (two-le-pos (prec f) (two f)) D g))
-
--- ---- as a part of the value: from 2 ^ (prec - 1) units on, where no number is subnormal, `round` is off by at most one part in 2 ^ prec
-last-digit : (p z : ℕ) → 0 < p → p - 1 < z → p - 1 + (z - p) < z
-last-digit p z P h = omega arith
-
-unit-le : (p n den : ℕ) → 0 < p → 0 < den → 2 ^ (p - 1) * den ≤ n → 2 ^ (p - 1) * (den * 2 ^ drop p n den) ≤ n
-unit-le p n den P D h =
-    let w = n / den in
-    let k = drop p n den in
-    let a : 2 ^ (p - 1 + k) ≤ w = size-reaches w (p - 1 + k) (last-digit p (size w) P (size-gt w (p - 1) (le-div-iff-mul-le D .1 h))) in
-    le-trans (le-of-eq (simp (mul-assoc, mul-comm, mul-left-comm, pow-add))) (le-div-iff-mul-le {x = 2 ^ (p - 1 + k)} D .0 a)
-
-parts : (r P d c t n : ℕ) → P ≡ 2 * r → Half c (d * t) n → r * (d * t) ≤ n → (P * (c * t * d) ≤ P * n + n) × (P * n ≤ P * (c * t * d) + n)
-parts r P d c t n e h l = rw e (omega (arith, mul-le-mul-left r (h .0), mul-le-mul-left r (h .1)))
-
-signed-parts : (s : Bool) (P den g n : ℕ) → (P * (g * den) ≤ P * n + n) × (P * n ≤ P * (g * den) + n) → Within n (P * den ⊙ signed s g) (P ⊙ signed s n)
-signed-parts false P den g n h = omega arith
-signed-parts true P den g n h = omega arith
-
-doubled : (p : ℕ) → 0 < p → 2 ^ p ≡ 2 * 2 ^ (p - 1)
-doubled p P = ap (λ (x : ℕ). 2 ^ x) (one-more p P) ∙ pow-succ' 2 (p - 1)
-  where
-    one-more : (p : ℕ) → 0 < p → p ≡ suc (p - 1)
-    one-more p P = omega arith
-
-pub round-relative : (f : Format) (s : Bool) (num den : ℕ) → 0 < den → 2 ^ (prec f - 1) * den ≤ num * 2 ^ low f → T (finite (round f s num den))
-    → Within (num * 2 ^ low f) (2 ^ prec f * den ⊙ exact f (round f s num den)) (2 ^ prec f ⊙ signed s (num * 2 ^ low f))
-round-relative f s num den D h t =
-    let p = prec f in
-    let n = num * 2 ^ low f in
-    let k = drop p n den in
-    let P = two-le-pos p (two f) in
-    subst (λ (v : Whole). Within n (2 ^ p * den ⊙ v) (2 ^ p ⊙ signed s n)) (sym (round-finite f s num den t))
-    (signed-parts s (2 ^ p) den (grid f num den) n
-    (parts (2 ^ (p - 1)) (2 ^ p) den (kept p n den) (2 ^ k) n (doubled p P) (closest-half n (den * 2 ^ k) (mul-pos D (pow-pos k))) (unit-le p n den P D h)))

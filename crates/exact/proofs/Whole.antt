@@ -1,11 +1,11 @@
--- Laws of the pairs: a line is nowhere further out than at its ends, and sizes add up. Assumes nothing.
+-- A law of the pairs: a line is nowhere further out than at its ends. Assumes nothing.
 use mathlib.Core.Bool.{Bool, true, false, not}
 use mathlib.Core.Path.{_≡_}
 use Prim.Native.Nat.{ℕ, _+_, _*_, _≤_, _<_}
-use native.Mathlib.Nat.{le-dest, le-of-lt, mul-le-mul-left, mul-le-mul-right}
+use native.Mathlib.Nat.{le-dest, le-of-lt, mul-le-mul-left}
 use native.Mathlib.Omega.{arith}
 use lib.Dec.{T, leb, leb→le, nleb→lt}
-use Rattle.exact.specs.Whole.{Whole, _⊕_, _⊙_, Sized, Room}
+use Rattle.exact.specs.Whole.{Whole, _⊕_, _⊙_, Room}
 
 -- ---- a line that starts at x and moves by t with each step is, up to its n-th step, nowhere further out than at its ends
 cross : (j n a b : ℕ) → j ≤ n → a ≤ b → j * b + n * a ≤ j * a + n * b
@@ -20,13 +20,3 @@ room-between b e j n x t l h k = go (leb (t .0) (t .1)) (leb→le (t .0) (t .1))
     go : (o : Bool) → (T o → t .0 ≤ t .1) → (T (not o) → t .1 < t .0) → Room b e (x ⊕ j ⊙ t)
     go true u v = omega (arith, cross j n (t .0) (t .1) l (u tt), mul-le-mul-left j (u tt))
     go false u v = omega (arith, cross j n (t .1) (t .0) l (le-of-lt (v tt)), mul-le-mul-left j (le-of-lt (v tt)))
-
--- ---- sizes add up
-pub sized-add : (a b : ℕ) (v w : Whole) → Sized a v → Sized b w → Sized (a + b) (v ⊕ w)
-sized-add a b v w h k = omega arith
-
-pub sized-times : (a j n : ℕ) (v : Whole) → j ≤ n → Sized a v → Sized (n * a) (j ⊙ v)
-sized-times a j n v l h = omega (arith, mul-le-mul-right a l, mul-le-mul-left j (h .0), mul-le-mul-left j (h .1))
-
-pub room-of : (a b e : ℕ) (v : Whole) → Sized a v → a + e < b → Room b e v
-room-of a b e v h k = omega arith

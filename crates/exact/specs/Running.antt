@@ -1,10 +1,6 @@
 -- The running sums: n steps of x := x + t, and of t := t + d; x := x + t. Definitions only.
-use Prim.Native.Nat.{ℕ, zero, suc, _+_, _^_}
-use lib.Dec.{T}
-use lib.Ieee.{Float, Format, low, add}
-use lib.Ieee.Scale.{finite}
-use Rattle.exact.specs.Whole.{Below}
-use Rattle.exact.specs.Exact.{exact}
+use Prim.Native.Nat.{ℕ, zero, suc, _+_}
+use lib.Ieee.{Float, Format, add}
 
 -- x after n steps of x := x + t
 unfoldable pub run : Format → ℕ → Float → Float → Float
@@ -17,11 +13,7 @@ unfolding run
 walk f zero x t d = x
 walk f (suc n) x t d = add f (walk f n x t d) (run f (suc n) t d)
 
--- 1 + 2 + .. + n
+-- 1 + 2 + .. + n, which is n*(n+1)/2: `tri-half` of proofs/Running.antt
 unfoldable pub tri : ℕ → ℕ
 tri zero = 0
 tri (suc n) = tri n + suc n
-
--- x is a number below 2 ^ k in size
-abbrev pub Stays : Format → ℕ → Float → Type 0
-Stays f k x = T (finite x) × Below (2 ^ (k + low f)) (exact f x)

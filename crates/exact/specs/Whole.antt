@@ -45,10 +45,6 @@ Below b v = (v .0 < v .1 + b) × (v .1 < v .0 + b)
 abbrev pub Within : ℕ → Whole → Whole → Type 0
 Within e v w = (v .0 + w .1 ≤ w .0 + v .1 + e) × (w .0 + v .1 ≤ v .0 + w .1 + e)
 
--- |v| ≤ b
-abbrev pub Sized : ℕ → Whole → Type 0
-Sized b v = (v .0 ≤ v .1 + b) × (v .1 ≤ v .0 + b)
-
 -- |v| + e < b
 abbrev pub Room : ℕ → ℕ → Whole → Type 0
 Room b e v = (v .0 + e < v .1 + b) × (v .1 + e < v .0 + b)

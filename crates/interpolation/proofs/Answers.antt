@@ -8,7 +8,7 @@ use lib.Ieee.{Float}
 use Rattle.error.specs.Refusals.{given, refused}
 use Rattle.error.proofs.Ladder.{pass, stop}
 use Rattle.interpolation.specs.Grid.{inRange, pointOf, gridSaid}
-use Rattle.interpolation.specs.Steps.{startOf, startQ}
+use Rattle.interpolation.specs.Steps.{beginOf, startQ}
 use Rattle.interpolation.specs.declared.Point.{Point}
 use Rattle.interpolation.specs.declared.Start.{Start}
 
@@ -21,6 +21,6 @@ module _ (least : ℕ) (how : Float → Float) (offsets : List ℤ) (t : Float) 
   unfolding gridSaid
   grid-refused h = stop _ _ _ _ h
 
-  pub grid-given : (s : Start) (ps : List Point) → inRange least t factor ≡ true → s ≡ startOf how t factor → ps ≡ pointsOf factor s offsets → given ps ≡ gridSaid least how offsets t factor
+  pub grid-given : (s : Start) (ps : List Point) → inRange least t factor ≡ true → s ≡ beginOf how t factor → ps ≡ pointsOf factor s offsets → given ps ≡ gridSaid least how offsets t factor
   unfolding gridSaid
   grid-given s ps h p q = pass _ _ _ _ _ h (ap given (q ∙ ap (λ (s : Start). pointsOf factor s offsets) p))

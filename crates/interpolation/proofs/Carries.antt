@@ -8,11 +8,11 @@ use mir.Syntax.{w64}
 use mir.Val.{SFits}
 use Rattle.exact.specs.Whole.{Whole, _⊕_, _⊙_}
 use Rattle.exact.specs.Integers.{Is}
-use Rattle.exact.proofs.Integers.{plus-is}
+use Rattle.exact.proofs.Integers.{plus-is, abs-le}
 use Rattle.interpolation.specs.Grid.{pointOf}
 use Rattle.interpolation.specs.Steps.{startQ}
 use Rattle.interpolation.specs.declared.Start.{Start}
-use Rattle.interpolation.proofs.Integers.{pairOf, pair-is, pair-abs, same-int, abs-is, abs-fits, at-is}
+use Rattle.interpolation.proofs.Integers.{pairOf, pair-is, pair-abs, same-int, abs-fits, at-is}
 use Rattle.interpolation.proofs.Points.{point-unique}
 
 -- so many turns were made
@@ -51,7 +51,7 @@ module _ {s : Start} {f ahead : ℕ} {i₀ : ℤ} {p₀ : ℕ} {i : ℤ} {p : �
   carried-fits P h k l =
       let a = pair-abs (s .index) in
       let t : c .turns ≤ c .turns * f = le-mul-of-pos-right (c .turns) P in
-      abs-fits (i +ℤ pos 1) (abs-is (i +ℤ pos 1) 4611686018427387904 (v ⊕ (1, 0)) (plus-is i (pos 1) v (1, 0) index-pair (pair-is (pos 1))) (omega (arith, c .parts-are)) (omega (arith, c .parts-are)))
+      abs-fits (i +ℤ pos 1) (abs-le 4611686018427387904 (i +ℤ pos 1) (v ⊕ (1, 0)) (plus-is i (pos 1) v (1, 0) index-pair (pair-is (pos 1))) (omega (arith, c .parts-are)) (omega (arith, c .parts-are)))
 
   -- fewer parts than a whole time has are left: this is the point
   pub carried-done : p < f → record { index = i; subindex = p } ≡ pointOf f (startQ f s +ℤ (pos ahead -ℤ pos 1))

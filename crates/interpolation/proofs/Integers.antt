@@ -1,6 +1,6 @@
 -- Whole numbers with a sign are equal where the pairs of naturals that they are the differences of say so. Assumes nothing.
 use mathlib.Core.Path.{_≡_, sym, ap, _∙_, subst}
-use Prim.Native.Nat.{ℕ, suc, _+_, _*_, _≤_}
+use Prim.Native.Nat.{ℕ, suc, _*_, _≤_}
 use native.Mathlib.Omega.{arith}
 use lib.IntN.{ℤ, pos, negsuc, natAbs, _+ℤ_, _-ℤ_, _*ℤ_}
 use mir.Syntax.{w64}
@@ -8,7 +8,7 @@ use mir.Val.{SFits, toZ, ofZ}
 use mir.ValLaws.{toZ-ofZ}
 use Rattle.exact.specs.Whole.{Whole, _⊕_, _⊙_, Same}
 use Rattle.exact.specs.Integers.{Is}
-use Rattle.exact.proofs.Integers.{neg-is, plus-is}
+use Rattle.exact.proofs.Integers.{neg-is, plus-is, abs-le}
 
 -- one pair for each
 abbrev pub pairOf : ℤ → Whole
@@ -37,10 +37,6 @@ by-is (negsuc a) n v h = neg-is (pos (suc a * n)) (n * v .1, n * v .0) (omega (a
 pub at-is : (z : ℤ) (n m : ℕ) (v : Whole) → Is z v → Is (z *ℤ pos n +ℤ pos m) (n ⊙ v ⊕ (m, 0))
 at-is z n m v h = plus-is (z *ℤ pos n) (pos m) (n ⊙ v) (m, 0) (by-is z n v h) (omega arith)
 
-pub abs-is : (z : ℤ) (b : ℕ) (v : Whole) → Is z v → v .0 ≤ v .1 + b → v .1 ≤ v .0 + b → natAbs z ≤ b
-abs-is (pos n) b v h k l = omega arith
-abs-is (negsuc n) b v h k l = omega arith
-
 pub pair-abs : (z : ℤ) → (pairOf z .0 ≤ natAbs z) × (pairOf z .1 ≤ natAbs z)
 pair-abs (pos n) = omega arith
 pair-abs (negsuc n) = omega arith
@@ -55,5 +51,5 @@ pub lowered : (z : ℤ) → natAbs z ≤ 4503599627370496 → SFits w64 (toZ w64
 lowered z h =
     let a = pair-abs z in
     let e : toZ w64 (ofZ w64 z) ≡ z = toZ-ofZ w64 z (abs-fits z (omega arith)) in
-    let w = abs-fits (z -ℤ pos 1) (abs-is (z -ℤ pos 1) 4611686018427387904 (pairOf z ⊕ (0, 1)) (plus-is z (negsuc 0) (pairOf z) (0, 1) (pair-is z) (pair-is (negsuc 0))) (omega arith) (omega arith)) in
+    let w = abs-fits (z -ℤ pos 1) (abs-le 4611686018427387904 (z -ℤ pos 1) (pairOf z ⊕ (0, 1)) (plus-is z (negsuc 0) (pairOf z) (0, 1) (pair-is z) (pair-is (negsuc 0))) (omega arith) (omega arith)) in
     (subst (λ (y : ℤ). SFits w64 (y -ℤ pos 1)) (sym e) w, ap (λ (y : ℤ). toZ w64 (ofZ w64 (y -ℤ pos 1))) e ∙ toZ-ofZ w64 (z -ℤ pos 1) w)

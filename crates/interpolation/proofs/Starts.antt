@@ -18,7 +18,7 @@ use Rattle.whole.proofs.Casts.{counted-signed}
 use Rattle.whole.proofs.Counts.{floor-counted}
 use Rattle.whole.proofs.Splits.{split-frac}
 use Rattle.interpolation.specs.Grid.{inRange}
-use Rattle.interpolation.specs.Steps.{innerOf, wholeBy, startOf, Ready}
+use Rattle.interpolation.specs.Steps.{innerOf, wholeBy, beginOf, Ready}
 use Rattle.interpolation.specs.declared.Inner.{Inner}
 use Rattle.interpolation.specs.declared.Start.{Start}
 use Rattle.interpolation.proofs.Integers.{pairOf, abs-fits}
@@ -84,7 +84,7 @@ module _ (t : Float) (factor : ℕ) (f : T (fits binary64 t)) (h : inRange 1 t f
   product-whole false = floor-whole factor (innerOf t factor .product) (in-range 1 t factor h .2) (inner-up-to .0) (inner-up-to .1)
 
   -- nothing is cut: the parts are the value of what was made
-  pub parts-value : (nearest : Bool) → Same (exact binary64 (wholeBy nearest (innerOf t factor .product))) (2 ^ low binary64 ⊙ (startOf (wholeBy nearest) t factor .parts, 0))
+  pub parts-value : (nearest : Bool) → Same (exact binary64 (wholeBy nearest (innerOf t factor .product))) (2 ^ low binary64 ⊙ (beginOf (wholeBy nearest) t factor .parts, 0))
   parts-value nearest = whole-value factor (wholeBy nearest (innerOf t factor .product)) (product-whole nearest)
 
   -- x is what is made of it
@@ -98,7 +98,7 @@ module _ (t : Float) (factor : ℕ) (f : T (fits binary64 t)) (h : inRange 1 t f
         rw whole-is (c .0, c .1)
 
     pub start-is : (k : ℕ) → k ≡ toUnsigned 64 x
-        → (start (toZ w64 (ofZ w64 (i .index))) k ≡ startOf (wholeBy nearest) t factor) × Ready factor (start (toZ w64 (ofZ w64 (i .index))) k)
+        → (start (toZ w64 (ofZ w64 (i .index))) k ≡ beginOf (wholeBy nearest) t factor) × Ready factor (start (toZ w64 (ofZ w64 (i .index))) k)
     start-is k r =
         let c = whole-cast factor (wholeBy nearest (innerOf t factor .product)) (product-whole nearest) in
         let e = ap (λ (z : ℤ). start z k) (index-back (i .index) (ap (λ (i : Inner). i .index) p)) ∙ ap (start (innerOf t factor .index)) (r ∙ ap (toUnsigned 64) whole-is) in

@@ -17,8 +17,8 @@ abbrev pub wholeBy : Bool → Float → Float
 wholeBy nearest = cond nearest roundOf floorOf
 
 -- where q lies, and q
-abbrev pub startOf : (Float → Float) → Float → ℕ → Start
-startOf how t factor = record { index = innerOf t factor .index; parts = toUnsigned 64 (how (innerOf t factor .product)) }
+abbrev pub beginOf : (Float → Float) → Float → ℕ → Start
+beginOf how t factor = record { index = innerOf t factor .index; parts = toUnsigned 64 (how (innerOf t factor .product)) }
 
 abbrev pub startQ : ℕ → Start → ℤ
 startQ factor s = s .index *ℤ pos factor +ℤ pos (s .parts)

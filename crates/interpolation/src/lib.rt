@@ -7,7 +7,7 @@ ghost use mathlib.Core.Bool.{true};
 ghost use Prim.Native.Nat.{_≤_};
 ghost use lib.IntN.{pos, _+ℤ_, _-ℤ_};
 ghost use Rattle.interpolation.specs.Grid.{inRange, pointOf, saidTimes1, saidTimes2, saidTimes3, saidTimes4, nearest1, nearest2, nearest3, nearest4};
-ghost use Rattle.interpolation.specs.Steps.{innerOf, wholeBy, startOf, startQ, Ready};
+ghost use Rattle.interpolation.specs.Steps.{innerOf, wholeBy, beginOf, startQ, Ready};
 
 // A point of the grid.
 pub struct Point {
@@ -107,7 +107,7 @@ fn made_whole(product: f64, nearest: bool) -> f64
 // Where q lies.
 fn start_of(t: f64, factor: u64, nearest: bool) -> Start
     requires { ⌜ inRange 1 t factor ≡ true ⌝ }
-    ensures { λ r. ⌜ (r ≡ startOf (wholeBy nearest) t factor) × Ready factor r ⌝ }
+    ensures { λ r. ⌜ (r ≡ beginOf (wholeBy nearest) t factor) × Ready factor r ⌝ }
 {
     let i = inner_of(t, factor);
     let parts = std::num::truncating_f64_to_u64(made_whole(i.product, nearest));

@@ -12,7 +12,7 @@ use Rattle.exact.specs.Whole.{Whole, _⊕_, _⊖_, _⊙_, Same, Less, AtMost, B
 use Rattle.exact.specs.Exact.{exact, Number}
 use Rattle.exact.specs.Running.{run, walk, tri}
 use Rattle.exact.proofs.Order.{eq-exact}
-use Rattle.exact.proofs.Running.{tri-is}
+use Rattle.exact.proofs.Running.{tri-is, walk-within}
 use Rattle.path.specs.Path.{pathAt}
 use Rattle.path.specs.Places.{allReach}
 use Rattle.path.proofs.Bounds.{Placed, reach-placed}
@@ -20,7 +20,7 @@ use Rattle.position.proofs.Amounts.{zero-exact, count-exact, sub-of}
 use Rattle.position.proofs.Tests.{holds}
 use Rattle.position.proofs.Steps.{Pace, Step, increment-near, steps-near}
 use Rattle.position.proofs.Flat.{steps-flat}
-use Rattle.position.proofs.Path.{path-index, walk-within}
+use Rattle.position.proofs.Path.{path-index}
 
 -- n frames from the index i by the step t and the increment d, and c frames of input: y is the index that is left
 pub record Moved (n c ramps : ℕ) (t d i y : Float) : Type 0 where

@@ -1,19 +1,20 @@
 -- Adding a zero rounds nothing away: where the increment is zero, every step is the first one. Assumes nothing.
-use mathlib.Core.Bool.{Bool, true, false, _&&_}
+use mathlib.Core.Bool.{Bool, true, false}
 use mathlib.Core.Path.{_≡_, sym, ap, _∙_, subst}
-use Prim.Native.Nat.{ℕ, zero, suc, _+_, _-_, _*_, _/_, _%_, _^_, _≤_, _<_}
-use native.Mathlib.Nat.{le-of-suc-le-suc, lt-of-not-le, not-le-of-lt, lt-of-lt-of-le, mul-one, mul-assoc, zero-mul, zero-div, div-one, mul-div-cancel}
+use Prim.Native.Nat.{ℕ, zero, suc, _+_, _-_, _*_, _/_, _^_, _≤_, _<_}
+use native.Mathlib.Nat.{lt-of-lt-of-le, mul-one, mul-assoc, zero-mul, zero-div, div-one, mul-div-cancel}
 use native.Mathlib.Omega.{arith}
-use lib.Dec.{T, eqb, leb, ltb, leb→le, lit≤}
+use lib.Dec.{lit≤}
 use lib.IntN.{pos, negsuc}
-use lib.Ieee.{Float, nan, inf, fin, binary64, fits}
+use lib.Ieee.{Float, nan, inf, fin, binary64}
 use lib.Ieee.Digits.{back}
-use lib.Ieee.Fits.{and-l, and-r, add-fits}
-use lib.Pow.{pow-add, pow-pos, pow-lt}
+use lib.Ieee.Fits.{add-fits}
+use lib.Pow.{pow-add, pow-pos}
 use Rattle.exact.specs.Doubles.{_+f_}
 use Rattle.exact.specs.Whole.{Whole, signed, _⊕_, _⊙_, Same, Below, Within}
 use Rattle.exact.specs.Exact.{exact, Number}
 use Rattle.exact.specs.Running.{run}
+use Rattle.exact.proofs.Exact.{places-le}
 use Rattle.exact.proofs.Sums.{add-is, keeps-of}
 use Rattle.whole.proofs.Held.{digits-lt}
 
@@ -24,15 +25,6 @@ pub record Spelled (x : Float) : Type 0 where
   pub places : ℕ
   pub is : exact binary64 x ≡ signed sign (digits * 2 ^ places)
   pub few : digits < 2 ^ 53
-
--- the smallest double is 2 ^ -1074
-places-fit : (s : Bool) (m k : ℕ) → T (fits binary64 (fin s (suc m) (negsuc k))) → suc k ≤ 1074
-unfolding fits
-places-fit s m k t =
-    let a : Bool = eqb (suc m % 2) 1 && ltb (suc m) (2 ^ 53) in
-    let b : Bool = leb (2 ^ suc k) (2 ^ 1074) in
-    let h = leb→le (2 ^ suc k) (2 ^ 1074) (and-r a b (and-l (a && b) (ltb (suc m * 1) (2 ^ 1024 * 2 ^ suc k)) t)) in
-    le-of-suc-le-suc (lt-of-not-le (λ (g : suc 1074 ≤ suc k). not-le-of-lt (pow-lt g) h))
 
 up-units : (m k : ℕ) → m * 2 ^ k * 2 ^ 1074 / 1 ≡ m * 2 ^ (k + 1074)
 up-units m k = div-one _ ∙ mul-assoc m (2 ^ k) (2 ^ 1074) ∙ ap (λ (z : ℕ). m * z) (sym (pow-add 2 k 1074))
@@ -51,7 +43,7 @@ spelled (inf s) n = absurd (n .0)
 spelled (fin s m (pos k)) n = record { sign = s; digits = m; places = k + 1074; is = ap (signed s) (up-units m k); few = digits-lt binary64 s m (pos k) (n .1) }
 spelled (fin s zero (negsuc k)) n = record { sign = s; digits = 0; places = 0; is = ap (signed s) (simp (zero-mul, zero-div)); few = pow-pos 53 }
 spelled (fin s (suc m) (negsuc k)) n =
-    record { sign = s; digits = suc m; places = 1074 - suc k; is = ap (signed s) (down-units (suc m) k (places-fit s m k (n .1))); few = digits-lt binary64 s (suc m) (negsuc k) (n .1) }
+    record { sign = s; digits = suc m; places = 1074 - suc k; is = ap (signed s) (down-units (suc m) k (places-le binary64 s m k (n .1))); few = digits-lt binary64 s (suc m) (negsuc k) (n .1) }
 
 -- ---- x plus a zero is x
 size-under : (s : Bool) (a b : ℕ) (v : Whole) → v ≡ signed s a → Below b v → a < b

@@ -3,7 +3,7 @@ use mathlib.Core.Bool.{Bool, true, false, cond}
 use mathlib.Core.Logic.{inl, inr}
 use mathlib.Core.Path.{_≡_, refl}
 use Prim.Native.Nat.{ℕ, suc, _+_, _*_, _/_, _%_, _≤_, _<_}
-use native.Mathlib.Nat.{le-trans, mod-lt, div-add-mod', div-eq-of-lt-le, div-lt-iff-lt-mul, div-mul-le-self, le-of-mul-le-mul-right, lt-of-mul-lt-mul-right}
+use native.Mathlib.Nat.{le-trans, mod-lt, div-add-mod', div-eq-of-lt-le, div-mul-le-self, le-of-mul-le-mul-right, lt-of-mul-lt-mul-right}
 use native.Mathlib.Omega.{arith}
 use lib.Dec.{eqb, leb}
 use borrow.Author.Tests.{eqb-false, leb-true, leb-false}
@@ -35,10 +35,7 @@ near-next a d D = rw (near-is a d D) (go (leb d (2 * (a % d))) refl)
     go true p = let h = leb-true d (2 * (a % d)) p in inr (refl, omega arith)
     go false p = inl refl
 
--- ---- bounds: of a fraction below b the whole part is, and of one up to b the other two are up to b
-pub part-below : (a d b : ℕ) → 0 < d → a < b * d → partDiv a d < b
-part-below a d b D h = div-lt-iff-lt-mul D .1 h
-
+-- ---- a bound: of a fraction up to b each of the three is up to b
 pub next-upto : (a d b n : ℕ) → 0 < d → Next a d n → a ≤ b * d → n ≤ b
 next-upto a d b n D (inl e) h = rw e (le-of-mul-le-mul-right (le-trans (div-mul-le-self a d) h) D)
 next-upto a d b n D (inr (e, r)) h = rw e (lt-of-mul-lt-mul-right d (omega (arith, div-add-mod' a d)))

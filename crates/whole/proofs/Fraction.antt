@@ -1,21 +1,22 @@
 -- What a double is beside its whole part is a double: the difference is exact. Assumes nothing.
-use mathlib.Core.Bool.{Bool, true, false, _&&_}
+use mathlib.Core.Bool.{Bool, true, false}
 use mathlib.Core.Logic.{inl}
 use mathlib.Core.Path.{_≡_, refl, sym, ap, _∙_, subst}
 use Prim.Native.Nat.{ℕ, zero, suc, _+_, _-_, _*_, _/_, _%_, _^_, _≤_, _<_}
-use native.Mathlib.Nat.{lt-of-not-le, not-le-of-lt, lt-of-le-of-lt, lt-of-lt-of-le, le-of-suc-le-suc, mul-one, mul-assoc, zero-mul, zero-mod, mod-le, mod-one}
+use native.Mathlib.Nat.{lt-of-le-of-lt, lt-of-lt-of-le, mul-one, mul-assoc, zero-mul, zero-mod, mod-le, mod-one}
 use native.Mathlib.Omega.{arith}
-use lib.Dec.{T, leb, ltb, eqb, leb→le}
+use lib.Dec.{T}
 use lib.IntN.{ℤ, pos, negsuc}
 use lib.Ieee.{fin, Format, binary64, prec, emax, low, up, down, fits}
 use lib.Ieee.Digits.{back}
-use lib.Ieee.Fits.{and-l, and-r, reach, sub-fits}
+use lib.Ieee.Fits.{reach, sub-fits}
 use lib.Ieee.Scale.{overflow}
-use lib.Pow.{pow-add, pow-pos, pow-lt, pow-mono, shl-lt}
+use lib.Pow.{pow-add, pow-pos, pow-mono, shl-lt}
 use Rattle.exact.specs.Doubles.{_-f_}
 use Rattle.exact.specs.Exact.{mag, exact, Number}
 use Rattle.exact.specs.Rounding.{RoundOf}
 use Rattle.exact.specs.Whole.{Whole, signed, _⊖_, Same}
+use Rattle.exact.proofs.Exact.{places-le}
 use Rattle.exact.proofs.Sums.{sub-is, keeps-of}
 use Rattle.whole.specs.Rounded.{wholeF}
 use Rattle.whole.proofs.Held.{digits-lt, next-value}
@@ -29,13 +30,6 @@ pub record Few (f : Format) (r d : ℕ) : Type 0 where
   pub digits : q < 2 ^ prec f
   pub fine : j ≤ low f
 
-down-le : (f : Format) (s : Bool) (m k : ℕ) → T (fits f (fin s (suc m) (negsuc k))) → suc k ≤ low f
-unfolding fits
-down-le f s m k t =
-    le-of-suc-le-suc (lt-of-not-le (λ (g : suc (low f) ≤ suc k). not-le-of-lt (pow-lt g)
-    (leb→le (2 ^ suc k) (2 ^ low f) (and-r (eqb (suc m % 2) 1 && ltb (suc m) (2 ^ prec f)) (leb (2 ^ suc k) (2 ^ low f))
-    (and-l (eqb (suc m % 2) 1 && ltb (suc m) (2 ^ prec f) && leb (2 ^ suc k) (2 ^ low f)) (ltb (suc m * 1) (2 ^ suc (emax f) * 2 ^ suc k)) t)))))
-
 pub left-few : (f : Format) (s : Bool) (m : ℕ) (e : ℤ) → T (fits f (fin s m e)) → Few f (m * up e % down e) (down e)
 left-few f s zero e t = record { q = 0; j = 0; is = rw (zero-mul (up e), zero-mod (down e)) (omega arith); digits = pow-pos (prec f); fine = omega arith }
 left-few f s (suc m) (pos k) t = record { q = 0; j = 0; is = rw (mod-one (suc m * 2 ^ k)) (omega arith); digits = pow-pos (prec f); fine = omega arith }
@@ -45,7 +39,7 @@ left-few f s (suc m) (negsuc k) t =
     record {
       q = r;
       j = j;
-      is = mul-assoc r (2 ^ j) (2 ^ suc k) ∙ ap (λ (x : ℕ). r * x) (sym (pow-add 2 j (suc k)) ∙ ap (λ (x : ℕ). 2 ^ x) (back (low f) (suc k) (down-le f s m k t)));
+      is = mul-assoc r (2 ^ j) (2 ^ suc k) ∙ ap (λ (x : ℕ). r * x) (sym (pow-add 2 j (suc k)) ∙ ap (λ (x : ℕ). 2 ^ x) (back (low f) (suc k) (places-le f s m k t)));
       digits = lt-of-le-of-lt (mod-le (suc m * 1) (2 ^ suc k)) (rw mul-one (digits-lt f s (suc m) (negsuc k) t));
       fine = omega arith;
     }

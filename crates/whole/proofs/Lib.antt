@@ -10,5 +10,4 @@ pub mod Values
 pub mod Splits
 pub mod Counts
 pub mod Casts
-pub mod Sums
 pub mod Examples

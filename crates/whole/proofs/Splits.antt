@@ -68,7 +68,7 @@ trunc-rest (fin s m e) t =
     let w = sub-part s m e (t .1) in
     (w .0, subst (λ (u : Whole). Same (exact binary64 (x -f wholeF s n)) (signed s (mag binary64 x) ⊖ u)) (sym (whole-exact s n (next-value binary64 s m e n (t .1) (inl refl)))) (w .1))
 
--- so the fraction of an x that is not below 0 is exact, and then it is below 1
+-- for a reader: so the fraction of an x that is not below 0 is exact and below 1; only below 0 can it round to 1.0
 pub frac-exact : (x : Float) → Number binary64 x → lt x zeroF ≡ false
     → Same (exact binary64 (splitOf x .frac)) (exact binary64 x ⊖ exact binary64 (floorOf x)) × Less (exact binary64 (splitOf x .frac)) (2 ^ low binary64, 0)
 frac-exact x t h =

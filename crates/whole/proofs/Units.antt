@@ -1,18 +1,19 @@
 -- A double and the whole numbers next to it, in units of 2 ^ -1074: a / d is M of U units to the one. Assumes nothing.
 use mathlib.Core.Bool.{Bool, false}
-use mathlib.Core.Path.{_≡_, sym, ap, _∙_}
+use mathlib.Core.Path.{_≡_, ap}
 use Prim.Native.Nat.{ℕ, _+_, _*_, _/_, _%_, _^_, _≤_, _<_}
-use native.Mathlib.Nat.{mul-one, mul-right-comm, mod-lt, div-add-mod', eq-of-mul-eq-mul-right, lt-of-mul-lt-mul-right, le-of-mul-le-mul-right, mul-lt-mul-of-pos-right, mul-le-mul-right}
+use native.Mathlib.Nat.{mod-lt, div-add-mod', eq-of-mul-eq-mul-right, lt-of-mul-lt-mul-right, le-of-mul-le-mul-right, mul-lt-mul-of-pos-right, mul-le-mul-right}
 use native.Mathlib.Omega.{arith}
 use lib.Dec.{T}
 use lib.IntN.{ℤ}
-use lib.Ieee.{Float, nan, inf, fin, Format, binary64, low, up, down, round, fits}
+use lib.Ieee.{fin, Format, binary64, low, up, down, round, fits}
 use lib.Ieee.Exact.{HasValue}
 use lib.Ieee.Fits.{down-pos}
 use lib.Pow.{pow-pos}
 use Rattle.exact.specs.Whole.{signed}
 use Rattle.exact.specs.Exact.{mag, exact, Number}
-use Rattle.exact.proofs.Exact.{mag-exact, exact-of, finite-of}
+use Rattle.exact.proofs.Exact.{mag-exact, finite-of}
+use Rattle.exact.proofs.Products.{ones-exact}
 use Rattle.whole.specs.Rounded.{wholeF}
 use Rattle.whole.proofs.Held.{wholeF-value, wholeF-fits}
 
@@ -60,13 +61,8 @@ module _ {M U a d n r : ℕ} (o : Shared M U a d n r) where
   half-under h = lt-of-mul-lt-mul-right d (omega (arith, scaled, mul-lt-mul-of-pos-right h (o .one)))
 
 -- ---- the exact value of a whole number
-whole-units : (f : Format) (x : Float) (s : Bool) (n : ℕ) → HasValue x s n 1 → HasValue x s (n * 2 ^ low f) (2 ^ low f)
-whole-units f nan s n h = absurd h
-whole-units f (inf t) s n h = absurd h
-whole-units f (fin t m e) s n h = (h .0, ap (λ (z : ℕ). z * 2 ^ low f) (sym (mul-one (m * up e)) ∙ h .1) ∙ mul-right-comm n (down e) (2 ^ low f))
-
 pub whole-exact : (s : Bool) (n : ℕ) → HasValue (round binary64 false n 1) false n 1 → exact binary64 (wholeF s n) ≡ signed s (n * 2 ^ low binary64)
-whole-exact s n h = exact-of binary64 (wholeF s n) s (n * 2 ^ low binary64) (whole-units binary64 (wholeF s n) s n (wholeF-value s n h))
+whole-exact s n h = ones-exact binary64 (wholeF s n) s n (wholeF-value s n h)
 
 pub whole-number : (s : Bool) (n : ℕ) → HasValue (round binary64 false n 1) false n 1 → Number binary64 (wholeF s n)
 whole-number s n h = (finite-of (wholeF s n) s n 1 (wholeF-value s n h), wholeF-fits s n)

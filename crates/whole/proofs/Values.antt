@@ -1,4 +1,4 @@
--- What floor, ceiling, truncation and rounding say of numbers, by exact values; each is exact. Assumes nothing.
+-- What floor, ceiling, truncation and rounding say of numbers, by exact values; each is exact. `ceil-least` and `trunc-toward` are for a reader. Assumes nothing.
 use mathlib.Core.Bool.{Bool, true, false, cond}
 use mathlib.Core.Path.{_≡_, refl, sym, subst}
 use Prim.Native.Nat.{ℕ, suc, _+_, _*_, _/_, _%_, _^_, _≤_, _<_}
