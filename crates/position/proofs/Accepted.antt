@@ -20,14 +20,13 @@ use Rattle.sizes.specs.Sizes.{neededInput, neededOutput, framesOf, isFrames, si
 use Rattle.state.specs.Record.{pointsIn, stepNow, stepThen, inputOf, outputOf, maxInputOf, isState, withSizes, updateLengths}
 use Rattle.state.proofs.Points.{points-few}
 use Rattle.state.proofs.Valid.{valid}
-use Rattle.error.proofs.Ladder.{accepted}
+use Rattle.error.proofs.Ladder.{accepted, same-given}
 use Rattle.path.specs.Path.{pathAt}
 use Rattle.path.specs.Places.{shiftOf, lastOf, allReach}
 use Rattle.plan.specs.Plan.{shapeHolds, incrementOf, reachHolds, afterBlock, planned}
-use Rattle.position.specs.History.{Doubles}
 use Rattle.position.specs.Position.{rampOf}
 use Rattle.position.proofs.Amounts.{looser}
-use Rattle.position.proofs.Tests.{holds, ratio-of, index-of}
+use Rattle.position.proofs.Tests.{holds, Double, index-of}
 use Rattle.position.proofs.Steps.{Step, step-of}
 use Rattle.position.proofs.Empty.{count-is, none-ahead}
 use Rattle.position.proofs.Blocks.{Moved, block-none, block-some}
@@ -39,10 +38,7 @@ sizes-given s t e =
     let a = accepted (isFrames (inputOf s)) _ _ _ t e in
     let b = accepted (isFrames (outputOf s)) _ _ _ t (a .1) in
     let c = accepted (sizeHolds (maxInputOf s) (framesOf (inputOf s))) _ _ _ t (b .1) in
-    same t (withSizes s (framesOf (inputOf s)) (framesOf (outputOf s))) (c .1)
-  where
-    same : (t u : State) → given u ≡ given t → t ≡ u
-    same t u e = cc
+    sym (same-given (withSizes s (framesOf (inputOf s)) (framesOf (outputOf s))) t (c .1))
 
 -- what an accepted block has passed
 pub record Passed (s t : State) : Type 0 where
@@ -78,18 +74,18 @@ more n c w t d i y m = record { number = m .number; inside = m .inside; near = l
     above a w = omega arith
 
 -- ---- the law of a block, by how many frames it has
-module _ (s : State) (q : Doubles s) (h : isState s ≡ true) where
+module _ (s : State) (q : Double (s .index)) (h : isState s ≡ true) where
   abbrev incAt : ℕ → Float
   incAt n = cond (eqb n 0) zeroF ((stepThen s -f stepNow s) /f count n)
 
   now : Step (stepNow s)
-  now = step-of (s .current) (ratio-of (s .current) (q .current) (holds (valid s h .current-ratio)))
+  now = step-of (s .current) (holds (valid s h .current-ratio))
 
   then : Step (stepThen s)
-  then = step-of (s .target) (ratio-of (s .target) (q .target) (holds (valid s h .target-ratio)))
+  then = step-of (s .target) (holds (valid s h .target-ratio))
 
   index : Number binary64 (s .index) × Below (2 ^ 1091) (exact binary64 (s .index))
-  index = index-of (s .index) (q .index) (holds (valid s h .index-inside))
+  index = index-of (s .index) q (holds (valid s h .index-inside))
 
   -- the block with n frames and the increment d
   abbrev MovedBy : ℕ → Float → Type 0

@@ -7,35 +7,23 @@ use native.Mathlib.Omega.{arith}
 use lib.Ieee.{Float, nan, inf, fin, binary64, emax, low, fits, ofBits}
 use lib.Ieee.Back.{round-whole}
 use lib.Pow.{pow-add, pow-pos}
-use Rattle.exact.specs.Doubles.{_-f_, _*f_, count, zeroF, oneF, halfF}
+use Rattle.exact.specs.Doubles.{_-f_, _*f_, count, zeroF, halfF}
 use Rattle.exact.specs.Whole.{Whole, _⊖_, _⊙_, _⊗_, AtMost, Below, Within}
 use Rattle.exact.specs.Exact.{mag, exact, Number}
 use Rattle.exact.specs.Rounding.{slack}
 use Rattle.exact.proofs.Sums.{sub-near}
 use Rattle.exact.proofs.Products.{mul-near}
 use Rattle.whole.proofs.Units.{whole-exact, whole-number}
-use Rattle.sizes.specs.Bounds.{leastF, mostF, lowF, highF}
+use Rattle.sizes.specs.Bounds.{lowF, highF}
 
 -- ---- the constants
 pub zero-exact : Number binary64 zeroF × (exact binary64 zeroF ≡ (0, 0))
 unfolding ofBits exact fits
 zero-exact = ((tt, tt), refl)
 
-pub one-exact : Number binary64 oneF × (exact binary64 oneF ≡ (2 ^ 1074, 0))
-unfolding ofBits exact fits
-one-exact = ((tt, tt), refl)
-
 pub half-exact : Number binary64 halfF × (exact binary64 halfF ≡ (2 ^ 1073, 0))
 unfolding ofBits exact fits
 half-exact = ((tt, tt), refl)
-
-pub least-exact : Number binary64 leastF × (exact binary64 leastF ≡ (2 ^ 1066, 0))
-unfolding ofBits exact fits
-least-exact = ((tt, tt), refl)
-
-pub most-exact : Number binary64 mostF × (exact binary64 mostF ≡ (2 ^ 1082, 0))
-unfolding ofBits exact fits
-most-exact = ((tt, tt), refl)
 
 pub low-exact : Number binary64 lowF × (exact binary64 lowF ≡ (0, 2 ^ 1091))
 unfolding ofBits exact fits

@@ -5,8 +5,8 @@ use Rattle.exact.specs.Whole.{Within}
 use Rattle.state.specs.declared.State.{State}
 use Rattle.position.specs.History.{Start, Call}
 use Rattle.position.specs.Position.{opened, ledger, stored, bound}
-use Rattle.position.proofs.Keeps.{start-doubles}
+use Rattle.position.proofs.Keeps.{start-index}
 use Rattle.position.proofs.Ledgers.{opened-near, calls-near}
 
 pub drift : (s : State) → Start s → (cs : List Call) → let l = ledger s (opened s) cs in Within (bound l) (stored l) (l .account .exactly)
-drift s start cs = calls-near s (opened s) cs (opened-near s (start-doubles s start)) .near
+drift s start cs = calls-near s (opened s) cs (opened-near s (start-index s start)) .near

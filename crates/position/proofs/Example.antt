@@ -29,11 +29,11 @@ made = record { channels = 1; chunk = 4; chunk0 = 4; input = 5; output = 4; fill
 
 pub made-start : Start made
 unfolding construct firstLengths updateLengths unless sizeOf neededInput neededOutput maxInput maxOutput madeWhole ofBits ofInt add sub mul div neg round lt eq le fits
-made-start = constructed oneF twoF Linear 4 1 Output made tt refl
+made-start = constructed oneF twoF Linear 4 1 Output made refl
 
 unfoldable pub calls : List Call
 unfolding ofBits fits
-calls = ratio halfF tt true ∷ block 8 1 (replicate 8 zeroF) (replicate 4 zeroF) (replicate 15 zeroF) ∷ []
+calls = ratio halfF true ∷ block 8 1 (replicate 8 zeroF) (replicate 4 zeroF) (replicate 15 zeroF) ∷ []
 
 abbrev pub case6 : Ledger
 case6 = ledger made (opened made) calls

@@ -1,8 +1,7 @@
 -- What an accepted block leaves passes the StateRecord test: its index is finite and strictly between -2 ^ 17 and 2 ^ 17. Assumes nothing.
 use mathlib.Core.Bool.{true}
-use mathlib.Core.Path.{_≡_, sym, ap, subst}
+use mathlib.Core.Path.{_≡_}
 use Prim.Native.Nat.{ℕ}
-use lib.Ieee.{Float}
 use lib.Ieee.Bits.{is-true}
 use Rattle.error.specs.Refusals.{given}
 use Rattle.state.specs.declared.State.{State}
@@ -10,19 +9,15 @@ use Rattle.sizes.specs.Bounds.{isIndex}
 use Rattle.state.specs.Record.{isState}
 use Rattle.plan.specs.Plan.{afterBlock, planned}
 use Rattle.plan.proofs.Keeps.{block-keeps}
-use Rattle.position.specs.History.{Doubles}
-use Rattle.position.proofs.Tests.{index-is}
+use Rattle.position.proofs.Tests.{Double, index-is}
 use Rattle.position.proofs.Accepted.{Passed, passed, moved}
 
-module _ (s t : State) (frames mask input output work : ℕ) (d : Doubles s) (e : planned s frames mask input output work ≡ given t) where
+module _ (s t : State) (frames mask input output work : ℕ) (d : Double (s .index)) (e : planned s frames mask input output work ≡ given t) where
   abbrev known : Passed s t
   known = passed s t frames mask input output work e
 
   after-inside : isIndex (afterBlock s .index) ≡ true
   after-inside = let m = moved s d (known .state) (known .reach) in is-true _ (index-is (afterBlock s .index) (m .number) (m .inside))
-
-  pub block-index-inside : isIndex (t .index) ≡ true
-  block-index-inside = subst (λ (x : Float). isIndex x ≡ true) (sym (ap (λ (r : State). r .index) (known .left))) after-inside
 
   pub block-leaves-state : isState t ≡ true
   block-leaves-state = block-keeps s t frames mask input output work after-inside e

@@ -1,10 +1,13 @@
 -- The steps of a block: 1/r of a ratio in use, the ramp increment, and each step on the way. In units of 2 ^ -1074. Assumes nothing.
-use mathlib.Core.Path.{sym, subst}
+use mathlib.Core.Bool.{Bool, true, false, cond}
+use mathlib.Core.Path.{_≡_, sym, subst}
 use Prim.Native.Nat.{ℕ, _+_, _*_, _^_, _≤_, _<_}
-use native.Mathlib.Nat.{le-trans, mul-pos, le-of-mul-le-mul-left, mul-le-mul-left, mul-le-mul-right}
+use native.Mathlib.Nat.{le-trans, zero-mul, mul-pos, le-of-mul-le-mul-left, mul-le-mul-right}
 use native.Mathlib.Omega.{arith}
-use lib.Dec.{lit≤}
-use lib.Ieee.{Float, binary64}
+use lib.Dec.{T, lit≤, eqb, eqb→eq}
+use lib.IntN.{ℤ}
+use lib.Ieee.{Float, inf, fin, binary64, up, down, round, div, ofBits}
+use lib.Ieee.Fits.{down-pos}
 use lib.Pow.{pow-pos}
 use Rattle.exact.specs.Doubles.{_-f_, _/f_, count, oneF}
 use Rattle.exact.specs.Whole.{Whole, _⊕_, _⊖_, _⊙_, _⊗_, AtMost, Below, Within, Room}
@@ -12,11 +15,13 @@ use Rattle.exact.specs.Exact.{mag, exact, Number}
 use Rattle.exact.specs.Rounding.{slack}
 use Rattle.exact.specs.Running.{run}
 use Rattle.exact.proofs.Whole.{room-between}
+use Rattle.exact.proofs.Rounding.{round-near}
 use Rattle.exact.proofs.Sums.{sub-near}
 use Rattle.exact.proofs.Products.{div-near}
 use Rattle.exact.proofs.Running.{run-drift}
-use Rattle.position.proofs.Amounts.{one-exact, count-exact, mag-between, mag-is, mag-below}
-use Rattle.position.proofs.Tests.{Ratio}
+use Rattle.sizes.specs.Bounds.{isRatio}
+use Rattle.position.proofs.Amounts.{count-exact, mag-is, mag-below}
+use Rattle.position.proofs.Tests.{ratio-of}
 
 -- ---- the step of a ratio is a number from 1/512 to 257, which leaves room for the rounding of 1/r
 -- the laws are over h, which is 2 ^ -46: one is 2 ^ 46 * h, and the slack of numbers below 2 ^ 9 is 2 * h
@@ -29,27 +34,32 @@ pub record Step (t : Float) : Type 0 where
   pub number : Number binary64 t
   pub pace : Pace (2 ^ 1028) (exact binary64 t)
 
--- R is the ratio, and t its step
-quotient-below : (h R : ℕ) → 2 ^ 46 * h ≤ 256 * R → 0 < h → (2 ^ 46 * h < 2 ^ 9 * R) × (0 < R)
-quotient-below h R l p = omega arith
+-- the ratio is D / C, and t its step
+quotient-below : (C D : ℕ) → 0 < C → C ≤ 256 * D → (0 < D * 1) × (1 * 1 * C < 2 ^ 9 * (D * 1))
+quotient-below C D p l = omega arith
 
-quotient-pace : (h R : ℕ) (t : Whole) → 0 < h → 0 < R → 2 ^ 46 * h ≤ 256 * R → R ≤ 256 * (2 ^ 46 * h) → Within (R * (2 * h)) ((R, 0) ⊗ t) (2 ^ 46 * h ⊙ (2 ^ 46 * h, 0)) → Pace h t
-quotient-pace h R t p P l m w =
-    let a : R * t .0 ≤ R * (256 * (2 ^ 46 * h) + t .1 + 2 * h) = omega (arith, mul-le-mul-right h l) in
-    let b : R * (2 ^ 46 * h + 256 * t .1) ≤ R * (256 * t .0 + 256 * (2 * h)) = omega (arith, mul-le-mul-right h m) in
-    record { some = p; least = omega (arith, le-of-mul-le-mul-left b P); most = omega (arith, le-of-mul-le-mul-left a P) }
+quotient-pace : (h C D : ℕ) (t : Whole) → 0 < h → 0 < D * 1 → C ≤ 256 * D → D ≤ 256 * C → Within (D * 1 * (2 * h)) (D * 1 ⊙ t) (1 * 1 * C * (2 ^ 46 * h), 0) → Pace h t
+quotient-pace h C D t p P l m w =
+    let P′ : 0 < D = omega arith in
+    let a : D * t .0 ≤ D * (256 * (2 ^ 46 * h) + t .1 + 2 * h) = omega (arith, mul-le-mul-right h l) in
+    let b : D * (2 ^ 46 * h + 256 * t .1) ≤ D * (256 * t .0 + 256 * (2 * h)) = omega (arith, mul-le-mul-right h m) in
+    record { some = p; least = omega (arith, le-of-mul-le-mul-left b P′); most = omega (arith, le-of-mul-le-mul-left a P′) }
 
-pub step-of : (r : Float) → Ratio r → Step (oneF /f r)
-step-of r q =
-    let t = exact binary64 (oneF /f r) in
-    let R = mag binary64 r in
-    let e = mag-between (2 ^ 1066) (2 ^ 1082) r (q .number) (pow-pos 1066) (q .least) (q .most) in
-    let l : 2 ^ 1074 ≤ 256 * R = mul-le-mul-left 256 (e .1) in
-    let b = quotient-below (2 ^ 1028) R l (pow-pos 1028) in
-    let n = div-near binary64 9 oneF r (one-exact .0) (q .number) (lit≤ tt) (b .1) (subst (λ (a : ℕ). a < 2 ^ 9 * R) (sym (mag-is (2 ^ 1074) oneF (one-exact .0) (pow-pos 1074) (one-exact .1))) (b .0)) in
-    let w = subst (λ (v : Whole). Within (R * slack binary64 9) (v ⊗ t) (2 ^ 1074 ⊙ exact binary64 oneF)) (e .0) (n .1) in
-    let w′ = subst (λ (v : Whole). Within (R * slack binary64 9) ((R, 0) ⊗ t) (2 ^ 1074 ⊙ v)) (one-exact .1) w in
-    record { number = n .0; pace = quotient-pace (2 ^ 1028) R t (pow-pos 1028) (b .1) l (e .2) w′ }
+fraction-step : (m : ℕ) (e : ℤ) → down e ≤ 256 * (m * up e) → m * up e ≤ 256 * down e → Step (oneF /f fin false m e)
+unfolding div ofBits
+fraction-step m e l k = go (eqb m 0) (eqb→eq m 0)
+  where
+    go : (o : Bool) → (T o → m ≡ 0) → Step (cond o (inf false) (round binary64 false (1 * 1 * down e) (m * up e * 1)))
+    go true u = let z = rw (u tt, zero-mul) at l in absurd (omega (arith, down-pos e))
+    go false u =
+        let b = quotient-below (down e) (m * up e) (down-pos e) l in
+        let r = round-near binary64 false (1 * 1 * down e) (m * up e * 1) 9 (b .0) (b .1) (lit≤ tt) in
+        record { number = r .0; pace = quotient-pace (2 ^ 1028) (down e) (m * up e) _ (pow-pos 1028) (b .0) l k (r .1) }
+
+pub step-of : (r : Float) → T (isRatio r) → Step (oneF /f r)
+step-of r h =
+    let q = ratio-of r h in
+    subst (λ (z : Float). Step (oneF /f z)) (sym (q .is)) (fraction-step (q .digits) (q .exponent) (q .least) (q .most))
 
 -- ---- u - t, rounded once
 apart : (h : ℕ) (t u : Whole) → Pace h t → Pace h u → Below (2 ^ 9 * (2 ^ 46 * h)) (u ⊖ t)

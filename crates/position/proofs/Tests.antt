@@ -1,40 +1,59 @@
 -- What a test that passed says. Assumes nothing.
-use mathlib.Core.Bool.{Bool, true, false}
-use mathlib.Core.Path.{_≡_, sym, subst}
-use Prim.Native.Nat.{ℕ, _^_}
+use mathlib.Core.Bool.{Bool, true, false, _&&_, _||_}
+use mathlib.Core.Path.{_≡_, refl, sym, subst}
+use Prim.Native.Nat.{ℕ, _*_, _^_, _≤_, _<_}
+use native.Mathlib.Nat.{le-of-lt, le-of-eq}
 use native.Mathlib.Omega.{arith}
-use lib.Dec.{T}
-use lib.Ieee.{Float, nan, inf, fin, binary64, lt, le, ofBits}
-use lib.Ieee.Fits.{and-i, and-l, and-r}
-use lib.Ieee.Positive.{between, positive-finite}
+use lib.Dec.{T, eqb, ltb, ltb→lt, eqb→eq}
+use lib.IntN.{ℤ}
+use lib.Ieee.{Float, nan, inf, fin, binary64, up, down, fits, lt, eq, le, ofBits}
+use lib.Ieee.Fits.{down-pos, and-i, and-l, and-r}
 use lib.Ieee.Scale.{finite}
-use Rattle.exact.specs.Whole.{Whole, Less, AtMost, Below}
+use Rattle.exact.specs.Whole.{Whole, Less, Below}
 use Rattle.exact.specs.Exact.{exact, Number}
-use Rattle.exact.proofs.Order.{lt-exact, le-exact}
+use Rattle.exact.proofs.Order.{lt-exact}
 use Rattle.sizes.specs.Bounds.{leastF, mostF, lowF, highF, isRatio, isIndex}
-use Rattle.position.specs.History.{Double}
-use Rattle.position.proofs.Amounts.{least-exact, most-exact, low-exact, high-exact}
+use Rattle.position.proofs.Amounts.{low-exact, high-exact}
 
 pub holds : {b : Bool} → b ≡ true → T b
 holds e = subst T (sym e) tt
 
--- a ratio in use is a number from 1/256 to 256
+-- ---- a ratio in use is a fraction from 1/256 to 256, whether it is a double or not
 pub record Ratio (r : Float) : Type 0 where
-  pub number : Number binary64 r
-  pub least : AtMost (2 ^ 1066, 0) (exact binary64 r)
-  pub most : AtMost (exact binary64 r) (2 ^ 1082, 0)
+  pub digits : ℕ
+  pub exponent : ℤ
+  pub is : r ≡ fin false digits exponent
+  pub least : down exponent ≤ 256 * (digits * up exponent)
+  pub most : digits * up exponent ≤ 256 * down exponent
 
-pub ratio-of : (r : Float) → Double r → T (isRatio r) → Ratio r
-unfolding ofBits
-ratio-of r d h =
-    let a = and-l (le leastF r) (le r mostF) h in
-    let b = and-r (le leastF r) (le r mostF) h in
-    let n : Number binary64 r = (positive-finite r (between leastF r mostF tt tt a b), d) in
-    record {
-      number = n;
-      least = subst (λ (v : Whole). AtMost v (exact binary64 r)) (least-exact .1) (le-exact binary64 leastF r (least-exact .0) n .0 a);
-      most = subst (AtMost (exact binary64 r)) (most-exact .1) (le-exact binary64 r mostF n (most-exact .0) .0 b);
-    }
+at-most : (a b : ℕ) (c : Bool) → T (ltb a b || (eqb a b && c)) → a ≤ b
+at-most a b c h = go (ltb a b) (ltb→lt a b) h
+  where
+    go : (o : Bool) → (T o → a < b) → T (o || (eqb a b && c)) → a ≤ b
+    go true u t = le-of-lt (u tt)
+    go false u t = le-of-eq (eqb→eq a b (and-l (eqb a b) c t))
+
+pub ratio-of : (r : Float) → T (isRatio r) → Ratio r
+unfolding le lt eq ofBits
+ratio-of r h = go r (and-l (le leastF r) (le r mostF) h) (and-r (le leastF r) (le r mostF) h)
+  where
+    go : (r : Float) → T (le leastF r) → T (le r mostF) → Ratio r
+    go nan a b = absurd a
+    go (inf true) a b = absurd a
+    go (inf false) a b = absurd b
+    go (fin true m e) a b = let z = eqb→eq (1 * 1 * down e) 0 (and-r (eqb (1 * 1 * down e) (m * up e * 256)) (eqb (1 * 1 * down e) 0) a) in absurd (omega (arith, down-pos e))
+    go (fin false m e) a b =
+        record {
+          digits = m;
+          exponent = e;
+          is = refl;
+          least = omega (arith, at-most (1 * 1 * down e) (m * up e * 256) true a);
+          most = omega (arith, at-most (m * up e * 1) (1 * 256 * down e) true b);
+        }
+
+-- ---- a double: what an f64 of the code holds
+abbrev pub Double : Float → Type 0
+Double x = T (fits binary64 x)
 
 -- an index in use is a number below 2 ^ 17 in size
 between-finite : (x : Float) → T (lt lowF x) → T (lt x highF) → T (finite x)

@@ -1,9 +1,9 @@
 -- Demand 3 in whole numbers of 2^-1074: the exact and the stored position, and the bound, over a history. Definitions only.
 -- A pair (a, b) of natural numbers stands for a - b; `exact binary64 x` is the value of the double x in units of 2^-1074.
-use mathlib.Core.Bool.{Bool, true, false, cond}
+use mathlib.Core.Bool.{cond}
 use mathlib.Core.List.{List, [], _∷_}
 use Prim.Native.Nat.{ℕ, _+_, _*_, _^_}
-use lib.Ieee.{Float, binary64, eq}
+use lib.Ieee.{binary64, eq}
 use Rattle.exact.specs.Doubles.{zeroF}
 use Rattle.exact.specs.Whole.{Whole, _⊕_, _⊙_}
 use Rattle.exact.specs.Exact.{exact}
@@ -14,7 +14,7 @@ use Rattle.state.specs.Record.{stepNow}
 use Rattle.process.specs.declared.Sizes.{Sizes}
 use Rattle.plan.specs.Plan.{incrementOf}
 use Rattle.process.specs.Block.{blockOf}
-use Rattle.position.specs.History.{Call, ratio, relative, chunk, block, after}
+use Rattle.position.specs.History.{Call, ratio, relative, chunk, block, leftBy}
 
 -- what is added up along a history: the exact position, the input sizes answered, the output frames N, the accepted blocks B, and the ramps' part of the bound
 pub record Account : Type 0 where
@@ -28,7 +28,7 @@ pub record Account : Type 0 where
 abbrev pub opened : State → Account
 opened s = record { exactly = exact binary64 (s .index); inputs = 0; frames = 0; blocks = 0; ramps = 0 }
 
--- ".. for each block, n*t + d*n*(n+1)/2": n its output frames, t and d its starting step and ramp increment, doubles taken as exact. tri n is 1 + 2 + .. + n, which is n*(n+1)/2
+-- ".. for each block, n*t + d*n*(n+1)/2": n its output frames, t and d its starting step and ramp increment, doubles taken as exact. tri n is 1 + 2 + .. + n, which is n*(n+1)/2 (`tri-half` in exact)
 abbrev pub exactMove : State → ℕ → Whole
 exactMove s n = n ⊙ exact binary64 (stepNow s) ⊕ tri n ⊙ exact binary64 (incrementOf s)
 
@@ -43,8 +43,8 @@ added s a (given z) =
 added s a (refused n vs) = a
 
 abbrev pub accounted : State → Account → Call → Account
-accounted s a (ratio r double ramp) = a
-accounted s a (relative rel double ramp) = a
+accounted s a (ratio r ramp) = a
+accounted s a (relative rel ramp) = a
 accounted s a (chunk n) = a
 accounted s a (block frames mask input output work) = added s a (blockOf s frames mask input output work .said)
 
@@ -55,7 +55,7 @@ pub record Ledger : Type 0 where
 
 unfoldable pub ledger : State → Account → List Call → Ledger
 ledger s a [] = record { state = s; account = a }
-ledger s a (c ∷ cs) = ledger (after s c) (accounted s a c) cs
+ledger s a (c ∷ cs) = ledger (leftBy s c) (accounted s a c) cs
 
 -- "add the input sizes answered by all accepted blocks to the stored index"
 abbrev pub stored : Ledger → Whole
