@@ -1,2 +1,3 @@
 -- Laws of the rows. Assumes nothing.
 pub mod Laws
+pub mod Signs

@@ -1,2 +1,3 @@
 -- The rows of the two kernels that have them. Definitions only.
 pub mod Rows
+pub mod Turns

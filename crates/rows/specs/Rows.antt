@@ -1,12 +1,11 @@
 -- Document 01, "Kernels": coefficients are whole numbers held as rows, one row per power of x, here the highest power first; rows are
 -- summed left to right, zero entries skipped, then Horner, then times the scale. Definitions only.
-use mathlib.Core.Bool.{Bool, true, false}
-use mathlib.Core.List.{List, [], _∷_}
+use mathlib.Core.Bool.{Bool, true, false, cond}
+use mathlib.Core.List.{List, [], _∷_, foldl}
 use Prim.Native.Nat.{ℕ, zero, suc}
 use lib.IntN.{ℤ, pos, negsuc, negℤ}
 use lib.Ieee.{Float, binary64, ofInt}
 use Rattle.exact.specs.Doubles.{_+f_, _*f_, _/f_, count, zeroF, oneF}
-use Rattle.rows.specs.declared.Part.{Part}
 
 abbrev pub isZero : ℤ → Bool
 isZero (pos zero) = true
@@ -17,28 +16,21 @@ isZero (negsuc n) = false
 abbrev pub term : ℤ → Float → Float
 term c y = ofInt binary64 c *f y
 
--- a sum and one term more; the first term starts it, and is not added to 0.0
-abbrev pub plus : Bool → Float → Float → Float
-plus false s t = t
-plus true s t = s +f t
+-- a row's terms on the samples ys, zero entries skipped
+unfoldable pub terms : List ℤ → List Float → List Float
+terms [] ys = []
+terms (c ∷ cs) [] = []
+terms (c ∷ cs) (y ∷ ys) = cond (isZero c) (terms cs ys) (term c y ∷ terms cs ys)
 
-abbrev pub pickPart : Bool → Part → Part → Part
-pickPart true a b = a
-pickPart false a b = b
-
--- one entry more of a row: a zero entry is skipped
-abbrev pub stepPart : Part → ℤ → Float → Part
-stepPart p c y = pickPart (isZero c) p (record { any = true; sum = plus (p .any) (p .sum) (term c y) })
-
--- left to right
-unfoldable pub sumFrom : Part → List ℤ → List Float → Float
-sumFrom p [] ys = p .sum
-sumFrom p (c ∷ cs) [] = p .sum
-sumFrom p (c ∷ cs) (y ∷ ys) = sumFrom (stepPart p c y) cs ys
+-- summed left to right from the first: no term is added to 0.0, and where there is none the sum is 0.0
+unfoldable pub leftToRight : List Float → Float
+leftToRight [] = zeroF
+leftToRight (t ∷ ts) = foldl (λ s u. s +f u) t ts
 
 -- a row's sum on the samples ys
-abbrev pub rowSum : List ℤ → List Float → Float
-rowSum cs ys = sumFrom (record { any = false; sum = zeroF }) cs ys
+unfoldable pub rowSum : List ℤ → List Float → Float
+unfolding terms leftToRight
+rowSum cs ys = leftToRight (terms cs ys)
 
 -- Horner: the next row's sum plus x times what the rows before it gave
 unfoldable pub horner : Float → List Float → Float → List (List ℤ) → Float
@@ -51,28 +43,28 @@ kernel [] scale x ys = zeroF
 kernel (r ∷ rs) scale x ys = scale *f horner x ys (rowSum r ys) rs
 
 -- -n, for the tables
-abbrev pub neg : ℕ → ℤ
-neg n = negℤ (pos n)
+abbrev pub minus : ℕ → ℤ
+minus n = negℤ (pos n)
 
 abbrev pub septicRows : List (List ℤ)
 septicRows =
-    (neg 1 ∷ pos 7 ∷ neg 21 ∷ pos 35 ∷ neg 35 ∷ pos 21 ∷ neg 7 ∷ pos 1 ∷ []) ∷
-    (pos 7 ∷ neg 42 ∷ pos 105 ∷ neg 140 ∷ pos 105 ∷ neg 42 ∷ pos 7 ∷ pos 0 ∷ []) ∷
-    (neg 7 ∷ neg 14 ∷ pos 189 ∷ neg 490 ∷ pos 595 ∷ neg 378 ∷ pos 119 ∷ neg 14 ∷ []) ∷
-    (neg 35 ∷ pos 420 ∷ neg 1365 ∷ pos 1960 ∷ neg 1365 ∷ pos 420 ∷ neg 35 ∷ pos 0 ∷ []) ∷
-    (pos 56 ∷ neg 497 ∷ pos 336 ∷ pos 1715 ∷ neg 3080 ∷ pos 1869 ∷ neg 448 ∷ pos 49 ∷ []) ∷
-    (pos 28 ∷ neg 378 ∷ pos 3780 ∷ neg 6860 ∷ pos 3780 ∷ neg 378 ∷ pos 28 ∷ pos 0 ∷ []) ∷
-    (neg 48 ∷ pos 504 ∷ neg 3024 ∷ neg 1260 ∷ pos 5040 ∷ neg 1512 ∷ pos 336 ∷ neg 36 ∷ []) ∷
+    (minus 1 ∷ pos 7 ∷ minus 21 ∷ pos 35 ∷ minus 35 ∷ pos 21 ∷ minus 7 ∷ pos 1 ∷ []) ∷
+    (pos 7 ∷ minus 42 ∷ pos 105 ∷ minus 140 ∷ pos 105 ∷ minus 42 ∷ pos 7 ∷ pos 0 ∷ []) ∷
+    (minus 7 ∷ minus 14 ∷ pos 189 ∷ minus 490 ∷ pos 595 ∷ minus 378 ∷ pos 119 ∷ minus 14 ∷ []) ∷
+    (minus 35 ∷ pos 420 ∷ minus 1365 ∷ pos 1960 ∷ minus 1365 ∷ pos 420 ∷ minus 35 ∷ pos 0 ∷ []) ∷
+    (pos 56 ∷ minus 497 ∷ pos 336 ∷ pos 1715 ∷ minus 3080 ∷ pos 1869 ∷ minus 448 ∷ pos 49 ∷ []) ∷
+    (pos 28 ∷ minus 378 ∷ pos 3780 ∷ minus 6860 ∷ pos 3780 ∷ minus 378 ∷ pos 28 ∷ pos 0 ∷ []) ∷
+    (minus 48 ∷ pos 504 ∷ minus 3024 ∷ minus 1260 ∷ pos 5040 ∷ minus 1512 ∷ pos 336 ∷ minus 36 ∷ []) ∷
     (pos 0 ∷ pos 0 ∷ pos 0 ∷ pos 5040 ∷ pos 0 ∷ pos 0 ∷ pos 0 ∷ pos 0 ∷ []) ∷
     []
 
 abbrev pub quinticRows : List (List ℤ)
 quinticRows =
-    (neg 1 ∷ pos 5 ∷ neg 10 ∷ pos 10 ∷ neg 5 ∷ pos 1 ∷ []) ∷
-    (pos 5 ∷ neg 20 ∷ pos 30 ∷ neg 20 ∷ pos 5 ∷ pos 0 ∷ []) ∷
-    (neg 5 ∷ neg 5 ∷ pos 50 ∷ neg 70 ∷ pos 35 ∷ neg 5 ∷ []) ∷
-    (neg 5 ∷ pos 80 ∷ neg 150 ∷ pos 80 ∷ neg 5 ∷ pos 0 ∷ []) ∷
-    (pos 6 ∷ neg 60 ∷ neg 40 ∷ pos 120 ∷ neg 30 ∷ pos 4 ∷ []) ∷
+    (minus 1 ∷ pos 5 ∷ minus 10 ∷ pos 10 ∷ minus 5 ∷ pos 1 ∷ []) ∷
+    (pos 5 ∷ minus 20 ∷ pos 30 ∷ minus 20 ∷ pos 5 ∷ pos 0 ∷ []) ∷
+    (minus 5 ∷ minus 5 ∷ pos 50 ∷ minus 70 ∷ pos 35 ∷ minus 5 ∷ []) ∷
+    (minus 5 ∷ pos 80 ∷ minus 150 ∷ pos 80 ∷ minus 5 ∷ pos 0 ∷ []) ∷
+    (pos 6 ∷ minus 60 ∷ minus 40 ∷ pos 120 ∷ minus 30 ∷ pos 4 ∷ []) ∷
     (pos 0 ∷ pos 0 ∷ pos 120 ∷ pos 0 ∷ pos 0 ∷ pos 0 ∷ []) ∷
     []
 

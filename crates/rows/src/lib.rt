@@ -3,7 +3,8 @@
 ghost use mathlib.Core.Path.{_≡_};
 ghost use lib.ListN.{length};
 ghost use Rattle.exact.specs.Doubles.{_+f_, _*f_};
-ghost use Rattle.rows.specs.Rows.{term, stepPart, rowSum, septic, quintic};
+ghost use Rattle.rows.specs.Rows.{term, rowSum, horner, septic, quintic};
+ghost use Rattle.rows.specs.Turns.{stepPart, top, septicTop, septicRest, quinticTop, quinticRest};
 
 // One row for each power of x, the highest first.
 const SEPTIC: [[i32; 8]; 8] = [
@@ -27,9 +28,9 @@ const QUINTIC: [[i32; 6]; 6] = [
 ];
 
 // A row's sum so far: nothing yet where `any` is false, so that no term is added to 0.0.
-pub struct Part {
-    pub any: bool,
-    pub sum: f64,
+struct Part {
+    any: bool,
+    sum: f64,
 }
 
 fn times(c: i32, y: f64) -> f64
@@ -81,29 +82,74 @@ fn next(row: &[i32], x: f64, ys: &[f64], acc: f64) -> f64
     row_sum(row, ys) + x * acc
 }
 
-// Samples at x = -3, -2, .., 4. Each row is named by a literal: a row at a computed place would
-// have the whole table copied at every look.
+// The rows of x^7 to x^4. Each row is named by a literal: a row at a computed place would have the
+// whole table copied at every look. (Four rows to a function: what is known of eight at once is long.)
+fn septic_top(x: f64, ys: &[f64]) -> f64
+    requires { ⌜ length (now ys) ≡ 8 ⌝ }
+    ensures { λ r. ⌜ r ≡ top x (now (ys .entry)) septicTop ⌝ }
+{
+    let rows = SEPTIC;
+    let r7 = rows[0];
+    let r6 = rows[1];
+    let r5 = rows[2];
+    let r4 = rows[3];
+    let s7 = row_sum(&r7, ys);
+    let s6 = next(&r6, x, ys, s7);
+    let s5 = next(&r5, x, ys, s6);
+    next(&r4, x, ys, s5)
+}
+
+// The rows of x^3 to x^0, after what those above gave.
+fn septic_rest(x: f64, ys: &[f64], s4: f64) -> f64
+    requires { ⌜ length (now ys) ≡ 8 ⌝ }
+    ensures { λ r. ⌜ r ≡ horner x (now (ys .entry)) s4 septicRest ⌝ }
+{
+    let rows = SEPTIC;
+    let r3 = rows[4];
+    let r2 = rows[5];
+    let r1 = rows[6];
+    let r0 = rows[7];
+    let s3 = next(&r3, x, ys, s4);
+    let s2 = next(&r2, x, ys, s3);
+    let s1 = next(&r1, x, ys, s2);
+    next(&r0, x, ys, s1)
+}
+
+// Samples at x = -3, -2, .., 4.
 pub fn septic_of(x: f64, ys: &[f64]) -> f64
     requires { ⌜ length (now ys) ≡ 8 ⌝ }
     ensures { λ r. ⌜ r ≡ septic x (now (ys .entry)) ⌝ }
 {
-    let r7 = SEPTIC[0];
-    let r6 = SEPTIC[1];
-    let r5 = SEPTIC[2];
-    let r4 = SEPTIC[3];
-    let r3 = SEPTIC[4];
-    let r2 = SEPTIC[5];
-    let r1 = SEPTIC[6];
-    let r0 = SEPTIC[7];
-    let s7 = row_sum(&r7, ys);
-    let s6 = next(&r6, x, ys, s7);
-    let s5 = next(&r5, x, ys, s6);
+    let s4 = septic_top(x, ys);
+    (1.0 / 5040.0) * septic_rest(x, ys, s4)
+}
+
+// The rows of x^5 to x^3.
+fn quintic_top(x: f64, ys: &[f64]) -> f64
+    requires { ⌜ length (now ys) ≡ 6 ⌝ }
+    ensures { λ r. ⌜ r ≡ top x (now (ys .entry)) quinticTop ⌝ }
+{
+    let rows = QUINTIC;
+    let r5 = rows[0];
+    let r4 = rows[1];
+    let r3 = rows[2];
+    let s5 = row_sum(&r5, ys);
     let s4 = next(&r4, x, ys, s5);
-    let s3 = next(&r3, x, ys, s4);
+    next(&r3, x, ys, s4)
+}
+
+// The rows of x^2 to x^0, after what those above gave.
+fn quintic_rest(x: f64, ys: &[f64], s3: f64) -> f64
+    requires { ⌜ length (now ys) ≡ 6 ⌝ }
+    ensures { λ r. ⌜ r ≡ horner x (now (ys .entry)) s3 quinticRest ⌝ }
+{
+    let rows = QUINTIC;
+    let r2 = rows[3];
+    let r1 = rows[4];
+    let r0 = rows[5];
     let s2 = next(&r2, x, ys, s3);
     let s1 = next(&r1, x, ys, s2);
-    let s0 = next(&r0, x, ys, s1);
-    (1.0 / 5040.0) * s0
+    next(&r0, x, ys, s1)
 }
 
 // Samples at x = -2, -1, .., 3.
@@ -111,17 +157,6 @@ pub fn quintic_of(x: f64, ys: &[f64]) -> f64
     requires { ⌜ length (now ys) ≡ 6 ⌝ }
     ensures { λ r. ⌜ r ≡ quintic x (now (ys .entry)) ⌝ }
 {
-    let r5 = QUINTIC[0];
-    let r4 = QUINTIC[1];
-    let r3 = QUINTIC[2];
-    let r2 = QUINTIC[3];
-    let r1 = QUINTIC[4];
-    let r0 = QUINTIC[5];
-    let s5 = row_sum(&r5, ys);
-    let s4 = next(&r4, x, ys, s5);
-    let s3 = next(&r3, x, ys, s4);
-    let s2 = next(&r2, x, ys, s3);
-    let s1 = next(&r1, x, ys, s2);
-    let s0 = next(&r0, x, ys, s1);
-    (1.0 / 120.0) * s0
+    let s3 = quintic_top(x, ys);
+    (1.0 / 120.0) * quintic_rest(x, ys, s3)
 }

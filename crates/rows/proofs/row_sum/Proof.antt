@@ -1,5 +1,5 @@
 -- `rows::row_sum` is the row's sum. The loop's invariant: the rest of the run from here gives what the whole run gives. Assumes nothing.
-use mathlib.Core.Path.{_≡_, refl}
+use mathlib.Core.Path.{_≡_}
 use Prim.Native.Nat.{_≤_, _-_}
 use native.Mathlib.Omega.{arith}
 use borrow.Author.Needs.{needs}
@@ -9,8 +9,8 @@ use mir.Val.{SFits}
 use mir.ValLaws.{toZ-ofZ}
 use lib.IntN.{pos}
 use lib.ListN.{length, getD, drop}
-use Rattle.rows.specs.Rows.{sumFrom, rowSum}
-use Rattle.rows.proofs.Laws.{sum-next, sum-done}
+use Rattle.rows.specs.Rows.{rowSum}
+use Rattle.rows.proofs.Laws.{sumFrom, sum-turns, sum-next, sum-done}
 use Rattle.rows.proofs.row_sum.Statement.{statement}
 use Rattle.rows.proofs.row_sum.Tie as tie
 
@@ -21,7 +21,7 @@ abbrev μ-loop : tie.MeasureT-loop
 μ-loop row ys p₀ j₀ p j = length row - j
 
 loop-holds : tie.Need-loop-holds Inv-loop μ-loop
-loop-holds c = (omega arith, refl)
+loop-holds c = (omega arith, sum-turns _ _)
 
 mul-step : tie.Need-mul-step Inv-loop μ-loop
 mul-step c = search needs

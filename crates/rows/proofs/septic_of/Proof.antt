@@ -1,132 +1,22 @@
--- `rows::septic_of` is the kernel of its rows: each call adds one row, by one law. Assumes nothing.
+-- `rows::septic_of` is the kernel of its rows: the upper ones, then the lower ones. Assumes nothing.
 use borrow.Author.Needs.{needs}
 use denote.Ref.{now}
 use lib.Ieee.{ofBits, ofInt}
-use Rattle.rows.proofs.Laws.{kernel-begun, horner-next, horner-done}
+use Rattle.rows.proofs.Laws.{top-rest}
 use Rattle.rows.proofs.septic_of.Statement.{statement}
 use Rattle.rows.proofs.septic_of.Tie as tie
 
-array-copy-out-r7 : tie.Need-array-copy-out-r7
-array-copy-out-r7 c = search needs
+septic-top-requires : tie.Need-septic-top-requires
+septic-top-requires c κs = search needs
 
-array-copy-out-r6 : tie.Need-array-copy-out-r6
-array-copy-out-r6 c = search needs
-
-array-copy-out-r5 : tie.Need-array-copy-out-r5
-array-copy-out-r5 c = search needs
-
-array-copy-out-r4 : tie.Need-array-copy-out-r4
-array-copy-out-r4 c = search needs
-
-array-copy-out-r3 : tie.Need-array-copy-out-r3
-array-copy-out-r3 c = search needs
-
-array-copy-out-r2 : tie.Need-array-copy-out-r2
-array-copy-out-r2 c = search needs
-
-array-copy-out-r1 : tie.Need-array-copy-out-r1
-array-copy-out-r1 c = search needs
-
-array-copy-out-r0 : tie.Need-array-copy-out-r0
-array-copy-out-r0 c = search needs
-
-slice-aggregate-row-sum : tie.Need-slice-aggregate-row-sum
-slice-aggregate-row-sum c = search needs
-
-row-sum-requires : tie.Need-row-sum-requires
-row-sum-requires c κs = search needs
-
-slice-aggregate-next : tie.Need-slice-aggregate-next
-slice-aggregate-next c = search needs
-
-next-requires : tie.Need-next-requires
-next-requires c κs = search needs
-
-slice-aggregate-next-2 : tie.Need-slice-aggregate-next-2
-slice-aggregate-next-2 c = search needs
-
-next-requires-2 : tie.Need-next-requires-2
-next-requires-2 c κs = search needs
-
-slice-aggregate-next-3 : tie.Need-slice-aggregate-next-3
-slice-aggregate-next-3 c = search needs
-
-next-requires-3 : tie.Need-next-requires-3
-next-requires-3 c κs = search needs
-
-slice-aggregate-next-4 : tie.Need-slice-aggregate-next-4
-slice-aggregate-next-4 c = search needs
-
-next-requires-4 : tie.Need-next-requires-4
-next-requires-4 c κs = search needs
-
-slice-aggregate-next-5 : tie.Need-slice-aggregate-next-5
-slice-aggregate-next-5 c = search needs
-
-next-requires-5 : tie.Need-next-requires-5
-next-requires-5 c κs = search needs
-
-slice-aggregate-next-6 : tie.Need-slice-aggregate-next-6
-slice-aggregate-next-6 c = search needs
-
-next-requires-6 : tie.Need-next-requires-6
-next-requires-6 c κs = search needs
-
-slice-aggregate-next-7 : tie.Need-slice-aggregate-next-7
-slice-aggregate-next-7 c = search needs
-
-next-requires-7 : tie.Need-next-requires-7
-next-requires-7 c κs = search needs
+septic-rest-requires : tie.Need-septic-rest-requires
+septic-rest-requires c κs = search needs
 
 returns : tie.Need-returns
 unfolding ofBits ofInt
 returns c =
-    let n6 = c .before .before in
-    let n5 = n6 .before .before in
-    let n4 = n5 .before .before in
-    let n3 = n4 .before .before in
-    let n2 = n3 .before .before in
-    let n1 = n2 .before .before in
-    let begun = n1 .before .before in
-    let s = begun .before .before .before .before .before .before .before .before .before .before .before in
-    let x = s .args .x in
-    let ys = now (s .args .ys) in
-    kernel-begun x ys _ _ _ _ _ (begun .row-sum .ensures)
-    (horner-next x ys _ _ _ _ _ (n1 .next .ensures)
-    (horner-next x ys _ _ _ _ _ (n2 .next2 .ensures)
-    (horner-next x ys _ _ _ _ _ (n3 .next3 .ensures)
-    (horner-next x ys _ _ _ _ _ (n4 .next4 .ensures)
-    (horner-next x ys _ _ _ _ _ (n5 .next5 .ensures)
-    (horner-next x ys _ _ _ _ _ (n6 .next6 .ensures)
-    (horner-next x ys _ _ _ _ _ (c .next7 .ensures)
-    (horner-done x ys _))))))))
+    let a = c .before .before .before .args in
+    top-rest (a .x) (now (a .ys)) _ _ _ _ _ _ (c .before .septic-top .ensures) (c .septic-rest .ensures)
 
 pub septic-of-spec : {M : Type 1} → statement M
-septic-of-spec =
-    tie.close
-    (tie.spec
-    array-copy-out-r7
-    array-copy-out-r6
-    array-copy-out-r5
-    array-copy-out-r4
-    array-copy-out-r3
-    array-copy-out-r2
-    array-copy-out-r1
-    array-copy-out-r0
-    slice-aggregate-row-sum
-    row-sum-requires
-    slice-aggregate-next
-    next-requires
-    slice-aggregate-next-2
-    next-requires-2
-    slice-aggregate-next-3
-    next-requires-3
-    slice-aggregate-next-4
-    next-requires-4
-    slice-aggregate-next-5
-    next-requires-5
-    slice-aggregate-next-6
-    next-requires-6
-    slice-aggregate-next-7
-    next-requires-7
-    returns)
+septic-of-spec = tie.close (tie.spec septic-top-requires septic-rest-requires returns)
