@@ -13,7 +13,7 @@ use lib.IntN.{ℤ, pos, negsuc, subℕ, _+ℤ_, _*ℤ_, +ℤ-idl, +ℤ-idr, zero
 use lib.ListN.{length}
 use Rattle.asynchro_fast.specs.declared.PolynomialDegree.the-variants.{Quintic, Septic}
 use Rattle.asynchro_fast.specs.Degrees.{pointsOf, beforeOf}
-use Rattle.asynchro_fast.specs.Nodes.{entry, weighted, hornerOn, rowsAt, factorAt, sameℤ, allBelow, nodeRule, nodesHold}
+use Rattle.asynchro_fast.specs.Nodes.{entry, weighted, hornerOn, rowsAt, factorAt, sameℤ, allBelow, septicScale, quinticScale, nodeRule, nodesHold}
 use Rattle.rows.specs.Rows.{septicRows, quinticRows}
 use Rattle.asynchro_fast.proofs.Integers.{swap-middle, add-mul, mul-add, mul-assoc}
 
@@ -97,11 +97,11 @@ node-rule rows points before scale t ys l i h =
     ∙ weighted-one (pos scale) ys i (omega arith)
 
 pub septic-node : (ys : List ℤ) → length ys ≡ pointsOf Septic → (i : ℕ) → i < pointsOf Septic
-    → rowsAt septicRows (subℕ i (beforeOf Septic)) ys ≡ pos 5040 *ℤ entry ys i
+    → rowsAt septicRows (subℕ i (beforeOf Septic)) ys ≡ pos septicScale *ℤ entry ys i
 unfolding hornerOn
-septic-node = node-rule septicRows 8 3 5040 tt
+septic-node = node-rule septicRows 8 3 septicScale tt
 
 pub quintic-node : (ys : List ℤ) → length ys ≡ pointsOf Quintic → (i : ℕ) → i < pointsOf Quintic
-    → rowsAt quinticRows (subℕ i (beforeOf Quintic)) ys ≡ pos 120 *ℤ entry ys i
+    → rowsAt quinticRows (subℕ i (beforeOf Quintic)) ys ≡ pos quinticScale *ℤ entry ys i
 unfolding hornerOn
-quintic-node = node-rule quinticRows 6 2 120 tt
+quintic-node = node-rule quinticRows 6 2 quinticScale tt

@@ -1,45 +1,32 @@
 -- Document 01, "Kernels": the five kernels at x on their samples, the choice by the degree, and what a call answers. Definitions only.
 use mathlib.Core.List.{List, []}
-use Prim.Native.Nat.{ℕ}
 use lib.Dec.{eqb}
-use lib.Ieee.{Float, nan, binary64, neg, ofBits}
-use lib.ListN.{length, getD}
-use Rattle.exact.specs.Doubles.{_+f_, _-f_, _*f_, _/f_, oneF, halfF}
+use lib.Ieee.{Float, neg}
+use lib.ListN.{length}
+use Rattle.exact.specs.Doubles.{_+f_, _-f_, _*f_, halfF, third, sixth}
+use Rattle.exact.specs.Samples.{sample, linear}
 use Rattle.error.specs.Refusals.{Said, given, unless}
 use Rattle.rows.specs.Rows.{septic, quintic}
 use Rattle.asynchro_fast.specs.declared.PolynomialDegree.{PolynomialDegree}
 use Rattle.asynchro_fast.specs.declared.PolynomialDegree.the-variants.{Nearest, Linear, Cubic, Quintic, Septic}
 use Rattle.asynchro_fast.specs.Degrees.{pointsOf}
 
--- the sample number k
-abbrev pub sample : List Float → ℕ → Float
-sample ys k = getD ys k nan
-
 -- the one sample
 abbrev pub nearestOf : Float → List Float → Float
 nearestOf x ys = sample ys 0
 
--- y0 + x*(y1-y0)
-abbrev pub linear : Float → List Float → Float
-linear x ys = sample ys 0 +f x *f (sample ys 1 -f sample ys 0)
-
--- the doubles 1/3 and 1/6; proofs/Laws.antt says that the divisors are 3 and 6
-abbrev pub third : Float
-third = oneF /f ofBits binary64 0x4008_0000_0000_0000
-
-abbrev pub sixth : Float
-sixth = oneF /f ofBits binary64 0x4018_0000_0000_0000
-
 -- `interp_cubic` in src/asynchro_fast.rs, by Horner
-abbrev pub cubicOn : Float → Float → Float → Float → Float → Float
-cubicOn x y0 y1 y2 y3 =
-    y1
-    +f x
-    *f (neg third *f y0 -f halfF *f y1 +f y2 -f sixth *f y3
-    +f x *f (halfF *f (y0 +f y2) -f y1 +f x *f (halfF *f (y1 -f y2) +f sixth *f (y3 -f y0))))
-
 abbrev pub cubic : Float → List Float → Float
-cubic x ys = cubicOn x (sample ys 0) (sample ys 1) (sample ys 2) (sample ys 3)
+cubic x ys =
+    let y0 = sample ys 0 in
+    let y1 = sample ys 1 in
+    let y2 = sample ys 2 in
+    let y3 = sample ys 3 in
+    let a0 = y1 in
+    let a1 = neg third *f y0 -f halfF *f y1 +f y2 -f sixth *f y3 in
+    let a2 = halfF *f (y0 +f y2) -f y1 in
+    let a3 = halfF *f (y1 -f y2) +f sixth *f (y3 -f y0) in
+    a0 +f x *f (a1 +f x *f (a2 +f x *f a3))
 
 -- the kernel of a degree
 unfoldable pub interpOf : PolynomialDegree → Float → List Float → Float

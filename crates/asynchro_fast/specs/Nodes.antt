@@ -39,6 +39,13 @@ abbrev pub allBelow : ℕ → (ℕ → Bool) → Bool
 allBelow zero f = true
 allBelow (suc n) f = f n && allBelow n f
 
+-- "5040 (120) times"
+abbrev pub septicScale : ℕ
+septicScale = 5040
+
+abbrev pub quinticScale : ℕ
+quinticScale = 120
+
 -- the nodes are -before, .., 0, 1, ..: node number i is i - before. A sample has the factor scale at its own node and 0 at the others
 abbrev pub nodeRule : List (List ℤ) → ℕ → ℕ → ℕ → ℕ → Bool
 nodeRule rows before scale i j = sameℤ (factorAt rows j (subℕ i before)) (cond (eqb i j) (pos scale) (pos 0))

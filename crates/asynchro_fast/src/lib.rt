@@ -1,9 +1,10 @@
 // The five kernels of the polynomial resampler, and the choice among them by the degree.
 ghost use mathlib.Core.Path.{_≡_};
 ghost use lib.ListN.{length};
+ghost use Rattle.exact.specs.Samples.{linear};
 ghost use Rattle.error.specs.Refusals.{saidAnswer};
 ghost use Rattle.asynchro_fast.specs.Degrees.{pointsOf, beforeOf};
-ghost use Rattle.asynchro_fast.specs.Kernels.{cubic, linear, interpOf, kernelSaid};
+ghost use Rattle.asynchro_fast.specs.Kernels.{cubic, interpOf, kernelSaid};
 use error::Answer;
 use error::Refusal;
 

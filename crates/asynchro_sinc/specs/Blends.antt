@@ -1,35 +1,14 @@
 -- Document 01, "What is ported": the `interp_` functions of src/asynchro_sinc.rs, in the source's operation order. Definitions only.
--- "Kernels": this cubic uses powers, and has other bits than the one by Horner in src/asynchro_fast.rs.
+-- "Kernels": this cubic uses powers, and has other bits than the one by Horner in src/asynchro_fast.rs. On two samples both sides have
+-- the one line of exact/specs/Samples.antt.
 use mathlib.Core.List.{List, [], _∷_}
 use Prim.Native.Nat.{ℕ}
 use lib.Dec.{eqb}
-use lib.Ieee.{Float, nan, binary64, neg, ofBits}
-use lib.ListN.{length, getD}
-use Rattle.exact.specs.Doubles.{_+f_, _-f_, _*f_, _/f_, oneF, halfF}
+use lib.Ieee.{Float, neg}
+use lib.ListN.{length}
+use Rattle.exact.specs.Doubles.{_+f_, _-f_, _*f_, oneF, halfF, twoF, threeF, fourF, third, sixth}
+use Rattle.exact.specs.Samples.{sample}
 use Rattle.error.specs.Refusals.{Said, given, unless}
-
--- the doubles that the source names; proofs/Constants.antt says which numbers they are
-abbrev pub twoF : Float
-twoF = ofBits binary64 0x4000_0000_0000_0000
-
-abbrev pub threeF : Float
-threeF = ofBits binary64 0x4008_0000_0000_0000
-
-abbrev pub fourF : Float
-fourF = ofBits binary64 0x4010_0000_0000_0000
-
-abbrev pub sixF : Float
-sixF = ofBits binary64 0x4018_0000_0000_0000
-
-abbrev pub third : Float
-third = oneF /f threeF
-
-abbrev pub sixth : Float
-sixth = oneF /f sixF
-
--- the sample number k
-abbrev pub sample : List Float → ℕ → Float
-sample ys k = getD ys k nan
 
 -- samples at -1, 0, 1, 2
 abbrev pub cubicOn : Float → Float → Float → Float → Float → Float
@@ -51,18 +30,11 @@ quadOn x y0 y1 y2 =
     let x2 = x *f x in
     halfF *f (a0 +f a1 *f x +f a2 *f x2)
 
--- samples at 0, 1
-abbrev pub linOn : Float → Float → Float → Float
-linOn x y0 y1 = y0 +f x *f (y1 -f y0)
-
 abbrev pub sincCubic : Float → List Float → Float
 sincCubic x ys = cubicOn x (sample ys 0) (sample ys 1) (sample ys 2) (sample ys 3)
 
 abbrev pub sincQuad : Float → List Float → Float
 sincQuad x ys = quadOn x (sample ys 0) (sample ys 1) (sample ys 2)
-
-abbrev pub sincLin : Float → List Float → Float
-sincLin x ys = linOn x (sample ys 0) (sample ys 1)
 
 -- "lent another number of samples than its L answers 11; every x is taken, NaN too"
 abbrev pub blendSaid : ℕ → (Float → List Float → Float) → Float → List Float → Said Float

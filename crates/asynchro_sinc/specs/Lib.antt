@@ -1,3 +1,2 @@
--- The sinc side: blends and weights, and the parameter record. Definitions only.
+-- The sinc side: blends and weights. Definitions only.
 pub mod Blends
-pub mod Parameters

@@ -1,16 +1,11 @@
 // The sinc side's small arithmetic: the blends of grid points, and what each point counts for in a
-// blend. The parameter record is in parameters.rt.
+// blend. The parameter record is in the crate sinc_parameters.
 use error::Answer;
 use error::Refusal;
 ghost use mathlib.Core.Path.{_≡_};
+ghost use Rattle.exact.specs.Samples.{lineOn, linear};
 ghost use Rattle.error.specs.Refusals.{saidAnswer};
-ghost use Rattle.asynchro_sinc.specs.Blends.{cubicOn, quadOn, linOn, sincCubic, sincQuad, sincLin, blendSaid, cubicWeights, quadWeights, linWeights};
-
-mod parameters;
-
-pub use parameters::Cutoff;
-pub use parameters::SincInterpolationParameters;
-pub use parameters::SincInterpolationType;
+ghost use Rattle.asynchro_sinc.specs.Blends.{cubicOn, quadOn, sincCubic, sincQuad, blendSaid, cubicWeights, quadWeights, linWeights};
 
 // By powers of x: the cubic of the polynomial resampler goes by Horner and has other bits.
 fn cubic_on(x: f64, y0: f64, y1: f64, y2: f64, y3: f64) -> f64
@@ -38,7 +33,7 @@ fn quad_on(x: f64, y0: f64, y1: f64, y2: f64) -> f64
 }
 
 fn lin_on(x: f64, y0: f64, y1: f64) -> f64
-    ensures { λ r. ⌜ r ≡ linOn x y0 y1 ⌝ }
+    ensures { λ r. ⌜ r ≡ lineOn x y0 y1 ⌝ }
 {
     y0 + x * (y1 - y0)
 }
@@ -65,7 +60,7 @@ pub fn interp_quad(x: f64, ys: &[f64]) -> Answer
 
 // The value at x on the line through two samples, at 0 and 1.
 pub fn interp_lin(x: f64, ys: &[f64]) -> Answer
-    ensures { λ r. ⌜ saidAnswer r ≡ blendSaid 2 sincLin x (now (ys .entry)) ⌝ }
+    ensures { λ r. ⌜ saidAnswer r ≡ blendSaid 2 linear x (now (ys .entry)) ⌝ }
 {
     if ys.len() != 2 {
         return Answer::Refused(Refusal::Argument);

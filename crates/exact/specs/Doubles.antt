@@ -34,6 +34,25 @@ oneF = ofBits binary64 0x3ff0_0000_0000_0000
 abbrev pub halfF : Float
 halfF = ofBits binary64 0x3fe0_0000_0000_0000
 
+abbrev pub twoF : Float
+twoF = ofBits binary64 0x4000_0000_0000_0000
+
+abbrev pub threeF : Float
+threeF = ofBits binary64 0x4008_0000_0000_0000
+
+abbrev pub fourF : Float
+fourF = ofBits binary64 0x4010_0000_0000_0000
+
+abbrev pub sixF : Float
+sixF = ofBits binary64 0x4018_0000_0000_0000
+
+-- the doubles 1/3 and 1/6
+abbrev pub third : Float
+third = oneF /f threeF
+
+abbrev pub sixth : Float
+sixth = oneF /f sixF
+
 -- the code has no literal for infinity: 1.0 / 0.0
 abbrev pub infF : Float
 infF = oneF /f zeroF

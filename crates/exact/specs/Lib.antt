@@ -5,3 +5,4 @@ pub mod Rounding
 pub mod Running
 pub mod Integers
 pub mod Doubles
+pub mod Samples

@@ -13,14 +13,14 @@ use Rattle.interpolation.specs.declared.Point.{Point}
 use Rattle.interpolation.specs.declared.Start.{Start}
 
 -- the points from the start s
-abbrev pub pointsOf : ℕ → Start → List ℤ → List Point
-pointsOf factor s = map (λ o. pointOf factor (startQ factor s +ℤ o))
+abbrev pub pointsFrom : ℕ → Start → List ℤ → List Point
+pointsFrom factor s = map (λ o. pointOf factor (startQ factor s +ℤ o))
 
 module _ (least : ℕ) (how : Float → Float) (offsets : List ℤ) (t : Float) (factor : ℕ) where
   pub grid-refused : inRange least t factor ≡ false → refused 11 [] ≡ gridSaid least how offsets t factor
   unfolding gridSaid
   grid-refused h = stop _ _ _ _ h
 
-  pub grid-given : (s : Start) (ps : List Point) → inRange least t factor ≡ true → s ≡ beginOf how t factor → ps ≡ pointsOf factor s offsets → given ps ≡ gridSaid least how offsets t factor
+  pub grid-given : (s : Start) (ps : List Point) → inRange least t factor ≡ true → s ≡ beginOf how t factor → ps ≡ pointsFrom factor s offsets → given ps ≡ gridSaid least how offsets t factor
   unfolding gridSaid
-  grid-given s ps h p q = pass _ _ _ _ _ h (ap given (q ∙ ap (λ (s : Start). pointsOf factor s offsets) p))
+  grid-given s ps h p q = pass _ _ _ _ _ h (ap given (q ∙ ap (λ (s : Start). pointsFrom factor s offsets) p))

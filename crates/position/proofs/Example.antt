@@ -5,7 +5,7 @@ use mathlib.Core.Path.{_≡_, refl}
 use Prim.Native.Nat.{_*_, _^_}
 use lib.Ieee.{add, sub, mul, div, neg, round, lt, le, eq, ofInt, ofBits, fits}
 use lib.ListN.{replicate}
-use Rattle.exact.specs.Doubles.{zeroF, oneF, halfF}
+use Rattle.exact.specs.Doubles.{zeroF, oneF, halfF, twoF}
 use Rattle.exact.specs.Whole.{Same}
 use Rattle.exact.specs.Exact.{exact}
 use Rattle.exact.specs.Running.{tri}
@@ -14,7 +14,7 @@ use Rattle.whole.specs.Rounded.{madeWhole}
 use Rattle.asynchro_fast.specs.declared.PolynomialDegree.the-variants.{Linear}
 use Rattle.sizes.specs.declared.FixedAsync.the-variants.{Output}
 use Rattle.state.specs.declared.State.{State}
-use Rattle.sizes.specs.Sizes.{twoF, startOf, sizeOf, neededInput, neededOutput, maxInput, maxOutput}
+use Rattle.sizes.specs.Sizes.{startOf, sizeOf, neededInput, neededOutput, maxInput, maxOutput}
 use Rattle.state.specs.Record.{isState, updateLengths}
 use Rattle.asynchro.specs.Calls.{construct, firstLengths}
 use Rattle.path.specs.Path.{pathAt}

@@ -8,11 +8,11 @@ use lib.Dec.{leb}
 use lib.Ieee.{Float, binary64}
 use lib.ListN.{length}
 use lib.Ieee.Fits.{neg-fits, sub-fits, div-fits}
-use Rattle.exact.specs.Doubles.{_*f_, _/f_, count, aboveZero, atLeastOne}
+use Rattle.exact.specs.Doubles.{_*f_, _/f_, count, aboveZero, atLeastOne, twoF}
 use Rattle.error.specs.Refusals.{Said, given, refused}
 use Rattle.state.specs.declared.State.{State}
 use Rattle.sizes.specs.Bounds.{isRatio, isChannels}
-use Rattle.sizes.specs.Sizes.{twoF, startOf}
+use Rattle.sizes.specs.Sizes.{startOf}
 use Rattle.state.specs.Record.{pointsIn, maximaHold, isState, updateLengths}
 use Rattle.asynchro.specs.Calls.{endOf, freshState, withFill, filled, firstLengths, construct, relativeHolds, withRatio, applied, setRatio, setRelative, withChunk, chunked, setChunk}
 use Rattle.error.proofs.Ladder.{accepted, same-given}

@@ -4,7 +4,7 @@ use mathlib.Core.Path.{_≡_, refl}
 use lib.IntN.{pos, negsuc}
 use lib.Ieee.{fin, ofBits}
 use Rattle.sizes.specs.Bounds.{leastF, mostF, lowF, highF}
-use Rattle.sizes.specs.Sizes.{twoF, tenF}
+use Rattle.sizes.specs.Sizes.{tenF}
 
 -- 1/256 and 256
 pub leastF-is : leastF ≡ fin false 1 (negsuc 7)
@@ -23,10 +23,6 @@ lowF-is = refl
 pub highF-is : highF ≡ fin false 1 (pos 17)
 unfolding ofBits
 highF-is = refl
-
-pub twoF-is : twoF ≡ fin false 1 (pos 1)
-unfolding ofBits
-twoF-is = refl
 
 pub tenF-is : tenF ≡ fin false 5 (pos 1)
 unfolding ofBits

@@ -12,9 +12,9 @@ use lib.Ieee.Exact.{HasValue, round-exact}
 use lib.Ieee.Fits.{down-pos}
 use lib.Ieee.Back.{round-whole}
 use lib.Ieee.Scale.{round-same}
-use Rattle.exact.specs.Doubles.{count, _/f_}
+use Rattle.exact.specs.Doubles.{count, _/f_, twoF}
 use Rattle.sizes.specs.Bounds.{isIndex}
-use Rattle.sizes.specs.Sizes.{twoF, startOf}
+use Rattle.sizes.specs.Sizes.{startOf}
 
 -- l / 2 is a double
 half-round : (l : ℕ) → l < 2 ^ 53 → HasValue (round binary64 false l 2) false l 2

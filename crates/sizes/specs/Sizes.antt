@@ -4,16 +4,13 @@ use mathlib.Core.Bool.{Bool, true, false}
 use Prim.Native.Nat.{ℕ, _+_, _*_, _/_}
 use lib.Dec.{leb, eqb}
 use lib.Ieee.{Float, nan, inf, fin, up, down, neg, binary64, ofBits}
-use Rattle.exact.specs.Doubles.{_+f_, _-f_, _*f_, _/f_, count, halfF}
+use Rattle.exact.specs.Doubles.{_+f_, _-f_, _*f_, _/f_, count, halfF, twoF}
 use Rattle.whole.specs.Rounded.{floorOf, ceilOf}
 use Rattle.sizes.specs.declared.Size.{Size}
 use Rattle.sizes.specs.declared.Size.the-variants.{Frames, TooLarge}
 use Rattle.sizes.specs.declared.FixedAsync.{FixedAsync}
 use Rattle.sizes.specs.declared.FixedAsync.the-variants.{Input, Output}
 use Rattle.sizes.specs.Bounds.{isSize}
-
-abbrev pub twoF : Float
-twoF = ofBits binary64 0x4000_0000_0000_0000
 
 abbrev pub tenF : Float
 tenF = ofBits binary64 0x4024_0000_0000_0000

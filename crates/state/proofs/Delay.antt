@@ -14,11 +14,11 @@ use lib.Ieee.Exact.{HasValue}
 use lib.Ieee.Fits.{down-pos}
 use lib.Ieee.Order.{le-of-values, round-mono}
 use lib.Ieee.Positive.{positive, positive-of-value, le→cross, between, mul-mono}
-use Rattle.exact.specs.Doubles.{_*f_, _/f_, count}
+use Rattle.exact.specs.Doubles.{_*f_, _/f_, count, twoF}
 use Rattle.whole.proofs.Sizes.{both}
 use Rattle.state.specs.declared.State.{State}
 use Rattle.sizes.specs.Bounds.{leastF, mostF, isRatio}
-use Rattle.sizes.specs.Sizes.{twoF, sizeOf, delayOf, isFrames}
+use Rattle.sizes.specs.Sizes.{sizeOf, delayOf, isFrames}
 use Rattle.state.specs.Record.{pointsIn, isState}
 use Rattle.state.proofs.Points.{points-between}
 use Rattle.state.proofs.Valid.{valid}

@@ -6,7 +6,7 @@ use native.Mathlib.Nat.{le-trans}
 use borrow.Author.Tests.{leb-true, eqb-true}
 use lib.Dec.{leb, lit≤}
 use lib.Ieee.{Float, nan, inf, fin, up, down}
-use Rattle.exact.specs.Doubles.{_+f_, _*f_, _/f_, count, atLeastOne}
+use Rattle.exact.specs.Doubles.{_+f_, _*f_, _/f_, count, atLeastOne, twoF}
 use Rattle.whole.specs.Rounded.{ceilOf}
 use Rattle.whole.proofs.Sizes.{both}
 use Rattle.sizes.specs.declared.FixedAsync.{FixedAsync}
@@ -15,7 +15,7 @@ use Rattle.sizes.specs.declared.Size.{Size}
 use Rattle.sizes.specs.declared.Size.the-variants.{Frames, TooLarge}
 use Rattle.state.specs.declared.State.{State}
 use Rattle.sizes.specs.Bounds.{isRatio, isChannels, isChunk, isSize, isIndex}
-use Rattle.sizes.specs.Sizes.{twoF, sized, sizeOf, sizeOfCount, inputFloat, outputFloat, neededInput, neededOutput, maxInput, isFrames, framesOf, sizeIs, sizeHolds}
+use Rattle.sizes.specs.Sizes.{sized, sizeOf, sizeOfCount, inputFloat, outputFloat, neededInput, neededOutput, maxInput, isFrames, framesOf, sizeIs, sizeHolds}
 use Rattle.state.specs.Record.{pointsIn, stepNow, stepThen, inputOf, outputOf, maxInputOf, maxOutputOf, countsHold, ratiosHold, maximaHold, sizesHold, isState}
 
 -- two tests joined

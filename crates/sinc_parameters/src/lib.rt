@@ -3,7 +3,7 @@
 // field is not stored to by itself.
 use windows::WindowFunction;
 ghost use mathlib.Core.Path.{_≡_};
-ghost use Rattle.asynchro_sinc.specs.Parameters.{newOf, defaultOf, withSincLen, withWindow, withCutoff, withFactor, withInterpolation};
+ghost use Rattle.sinc_parameters.specs.Parameters.{newOf, defaultOf, withSincLen, withWindow, withCutoff, withFactor, withInterpolation};
 
 // How the value between grid points is found.
 pub enum SincInterpolationType {

@@ -3,11 +3,11 @@ use Prim.Native.Nat.{ℕ}
 use lib.Ieee.{Float}
 use Rattle.windows.specs.declared.WindowFunction.{WindowFunction}
 use Rattle.windows.specs.declared.WindowFunction.the-variants.{BlackmanHarris2}
-use Rattle.asynchro_sinc.specs.declared.parameters.Cutoff.{Cutoff}
-use Rattle.asynchro_sinc.specs.declared.parameters.Cutoff.the-variants.{Auto, At}
-use Rattle.asynchro_sinc.specs.declared.parameters.SincInterpolationType.{SincInterpolationType}
-use Rattle.asynchro_sinc.specs.declared.parameters.SincInterpolationType.the-variants.{Cubic}
-use Rattle.asynchro_sinc.specs.declared.parameters.SincInterpolationParameters.{SincInterpolationParameters}
+use Rattle.sinc_parameters.specs.declared.Cutoff.{Cutoff}
+use Rattle.sinc_parameters.specs.declared.Cutoff.the-variants.{Auto, At}
+use Rattle.sinc_parameters.specs.declared.SincInterpolationType.{SincInterpolationType}
+use Rattle.sinc_parameters.specs.declared.SincInterpolationType.the-variants.{Cubic}
+use Rattle.sinc_parameters.specs.declared.SincInterpolationParameters.{SincInterpolationParameters}
 
 -- the two that shape the filter are given; the cutoff is left automatic, the oversampling factor is 128, the interpolation cubic
 abbrev pub newOf : ℕ → WindowFunction → SincInterpolationParameters

@@ -1,0 +1,2 @@
+-- The parameter record of the sinc side. Definitions only.
+pub mod Parameters
