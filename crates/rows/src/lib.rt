@@ -83,20 +83,17 @@ fn next(row: &[i32], x: f64, ys: &[f64], acc: f64) -> f64
 }
 
 // The rows of x^7 to x^4. Each row is named by a literal: a row at a computed place would have the
-// whole table copied at every look. (Four rows to a function: what is known of eight at once is long.)
+// whole table copied at every look. A table is gone through in two parts, since what is to be shown
+// of one function grows with the square of its length.
 fn septic_top(x: f64, ys: &[f64]) -> f64
     requires { ⌜ length (now ys) ≡ 8 ⌝ }
     ensures { λ r. ⌜ r ≡ top x (now (ys .entry)) septicTop ⌝ }
 {
     let rows = SEPTIC;
-    let r7 = rows[0];
-    let r6 = rows[1];
-    let r5 = rows[2];
-    let r4 = rows[3];
-    let s7 = row_sum(&r7, ys);
-    let s6 = next(&r6, x, ys, s7);
-    let s5 = next(&r5, x, ys, s6);
-    next(&r4, x, ys, s5)
+    let s7 = row_sum(&rows[0], ys);
+    let s6 = next(&rows[1], x, ys, s7);
+    let s5 = next(&rows[2], x, ys, s6);
+    next(&rows[3], x, ys, s5)
 }
 
 // The rows of x^3 to x^0, after what those above gave.
@@ -105,14 +102,10 @@ fn septic_rest(x: f64, ys: &[f64], s4: f64) -> f64
     ensures { λ r. ⌜ r ≡ horner x (now (ys .entry)) s4 septicRest ⌝ }
 {
     let rows = SEPTIC;
-    let r3 = rows[4];
-    let r2 = rows[5];
-    let r1 = rows[6];
-    let r0 = rows[7];
-    let s3 = next(&r3, x, ys, s4);
-    let s2 = next(&r2, x, ys, s3);
-    let s1 = next(&r1, x, ys, s2);
-    next(&r0, x, ys, s1)
+    let s3 = next(&rows[4], x, ys, s4);
+    let s2 = next(&rows[5], x, ys, s3);
+    let s1 = next(&rows[6], x, ys, s2);
+    next(&rows[7], x, ys, s1)
 }
 
 // Samples at x = -3, -2, .., 4.
@@ -130,12 +123,9 @@ fn quintic_top(x: f64, ys: &[f64]) -> f64
     ensures { λ r. ⌜ r ≡ top x (now (ys .entry)) quinticTop ⌝ }
 {
     let rows = QUINTIC;
-    let r5 = rows[0];
-    let r4 = rows[1];
-    let r3 = rows[2];
-    let s5 = row_sum(&r5, ys);
-    let s4 = next(&r4, x, ys, s5);
-    next(&r3, x, ys, s4)
+    let s5 = row_sum(&rows[0], ys);
+    let s4 = next(&rows[1], x, ys, s5);
+    next(&rows[2], x, ys, s4)
 }
 
 // The rows of x^2 to x^0, after what those above gave.
@@ -144,12 +134,9 @@ fn quintic_rest(x: f64, ys: &[f64], s3: f64) -> f64
     ensures { λ r. ⌜ r ≡ horner x (now (ys .entry)) s3 quinticRest ⌝ }
 {
     let rows = QUINTIC;
-    let r2 = rows[3];
-    let r1 = rows[4];
-    let r0 = rows[5];
-    let s2 = next(&r2, x, ys, s3);
-    let s1 = next(&r1, x, ys, s2);
-    next(&r0, x, ys, s1)
+    let s2 = next(&rows[3], x, ys, s3);
+    let s1 = next(&rows[4], x, ys, s2);
+    next(&rows[5], x, ys, s1)
 }
 
 // Samples at x = -2, -1, .., 3.

@@ -5,48 +5,36 @@ use Rattle.rows.proofs.Laws.{top-begun, horner-next, horner-done}
 use Rattle.rows.proofs.septic_top.Statement.{statement}
 use Rattle.rows.proofs.septic_top.Tie as tie
 
-array-copy-out-r7 : tie.Need-array-copy-out-r7
-array-copy-out-r7 c = search needs
-
-array-copy-out-r6 : tie.Need-array-copy-out-r6
-array-copy-out-r6 c = search needs
-
-array-copy-out-r5 : tie.Need-array-copy-out-r5
-array-copy-out-r5 c = search needs
-
-array-copy-out-r4 : tie.Need-array-copy-out-r4
-array-copy-out-r4 c = search needs
-
-slice-aggregate-row-sum : tie.Need-slice-aggregate-row-sum
-slice-aggregate-row-sum c = search needs
+index-1-row-sum : tie.Need-index-1-row-sum
+index-1-row-sum c = search needs
 
 row-sum-requires : tie.Need-row-sum-requires
 row-sum-requires c κs = search needs
 
-slice-aggregate-next : tie.Need-slice-aggregate-next
-slice-aggregate-next c = search needs
+index-1-next : tie.Need-index-1-next
+index-1-next c = search needs
 
 next-requires : tie.Need-next-requires
 next-requires c κs = search needs
 
-slice-aggregate-next-2 : tie.Need-slice-aggregate-next-2
-slice-aggregate-next-2 c = search needs
+index-1-next-2 : tie.Need-index-1-next-2
+index-1-next-2 c = search needs
 
 next-requires-2 : tie.Need-next-requires-2
 next-requires-2 c κs = search needs
 
-slice-aggregate-next-3 : tie.Need-slice-aggregate-next-3
-slice-aggregate-next-3 c = search needs
+index-1-next-3 : tie.Need-index-1-next-3
+index-1-next-3 c = search needs
 
 next-requires-3 : tie.Need-next-requires-3
 next-requires-3 c κs = search needs
 
 returns : tie.Need-returns
 returns c =
-    let n2 = c .before .before in
-    let n1 = n2 .before .before in
-    let begun = n1 .before .before in
-    let s = begun .before .before .before .before .before .before .before in
+    let n2 = c .before .before .before in
+    let n1 = n2 .before .before .before in
+    let begun = n1 .before .before .before in
+    let s = begun .before .before .before .before in
     let x = s .args .x in
     let ys = now (s .args .ys) in
     top-begun x ys _ _ _ _ (begun .row-sum .ensures)
@@ -56,19 +44,4 @@ returns c =
     (horner-done x ys _))))
 
 pub septic-top-spec : {M : Type 1} → statement M
-septic-top-spec =
-    tie.close
-    (tie.spec
-    array-copy-out-r7
-    array-copy-out-r6
-    array-copy-out-r5
-    array-copy-out-r4
-    slice-aggregate-row-sum
-    row-sum-requires
-    slice-aggregate-next
-    next-requires
-    slice-aggregate-next-2
-    next-requires-2
-    slice-aggregate-next-3
-    next-requires-3
-    returns)
+septic-top-spec = tie.close (tie.spec index-1-row-sum row-sum-requires index-1-next next-requires index-1-next-2 next-requires-2 index-1-next-3 next-requires-3 returns)
