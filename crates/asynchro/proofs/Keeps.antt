@@ -1,32 +1,29 @@
 -- What an accepted call leaves passes the StateRecord test. Assumes nothing.
-use mathlib.Core.Bool.{Bool, true, false, cond, _&&_, false≢true}
-use mathlib.Core.List.{List}
+use mathlib.Core.Bool.{Bool, true, false, cond, _&&_}
 use mathlib.Core.Path.{_≡_, refl, subst}
-use Prim.Native.Nat.{ℕ, _≤_, zero-le}
+use Prim.Native.Nat.{ℕ, _≤_}
 use native.Mathlib.Nat.{le-refl, le-trans}
 use native.Mathlib.Omega.{arith}
-use borrow.Author.Tests.{leb-true, le-leb, eq-eqb}
+use borrow.Author.Tests.{leb-true, le-leb}
 use lib.Dec.{leb}
 use lib.Ieee.{Float}
 use Rattle.exact.specs.Doubles.{aboveZero, atLeastOne, _*f_, _/f_}
-use Rattle.error.specs.Refusals.{Said, given, refused, unless}
-use Rattle.error.proofs.Ladder.{accepted, same-given}
-use Rattle.whole.proofs.Sizes.{both}
+use Rattle.error.specs.Refusals.{Said, given, refused}
+use Rattle.error.proofs.Ladder.{both, join, accepted, same-given}
 use Rattle.asynchro_fast.specs.declared.PolynomialDegree.{PolynomialDegree}
 use Rattle.asynchro_fast.specs.Degrees.{pointsOf}
 use Rattle.sizes.specs.declared.FixedAsync.{FixedAsync}
 use Rattle.sizes.specs.declared.FixedAsync.the-variants.{Input, Output}
-use Rattle.sizes.specs.declared.Size.{Size}
-use Rattle.sizes.specs.declared.Size.the-variants.{Frames, TooLarge}
 use Rattle.state.specs.declared.State.{State}
 use Rattle.sizes.specs.Bounds.{isRatio, isChannels, isChunk, isSize}
-use Rattle.sizes.specs.Sizes.{sized, maxInput, maxOutput, isFrames, framesOf, sizeIs, sizeHolds}
-use Rattle.state.specs.Record.{inputOf, outputOf, maxInputOf, maxOutputOf, countsHold, maximaHold, isState, withSizes, updateLengths}
+use Rattle.sizes.specs.Sizes.{maxInput, maxOutput, isFrames}
+use Rattle.state.specs.Record.{maxInputOf, maxOutputOf, countsHold, maximaHold, isState, updateLengths}
 use Rattle.asynchro.specs.Calls.{endOf, freshState, withFill, filled, firstLengths, construct, relativeHolds, withRatio, applied, setRatio, setRelative, withChunk, chunked, setChunk}
 use Rattle.state.proofs.Points.{points-between}
 use Rattle.sizes.proofs.Start.{start-inside}
+use Rattle.sizes.proofs.Read.{counted, none-held}
 use Rattle.state.proofs.Keeps.{update-keeps}
-use Rattle.state.proofs.Valid.{join, Ready, tests, passes, valid}
+use Rattle.state.proofs.Valid.{Ready, tests, passes, valid}
 
 -- a call that ends so keeps the test: on a refusal the record is the one given
 pub end-keeps : (s : State) (d : Said State) → isState s ≡ true → ((t : State) → d ≡ given t → isState t ≡ true) → isState (endOf s d .state) ≡ true
@@ -80,20 +77,11 @@ chunk-keeps s n h = end-keeps s (chunked s n) h (λ t e.
     update-keeps (withChunk s n) t (chunk-ready s n h (b .0)) (b .1))
 
 -- ---- construction
-counted : (b : Bool) (n : ℕ) → isSize n ≡ b → isFrames (sized b n) ≡ true → n ≤ 65536
-counted true n h k = leb-true n 65536 h
-counted false n h k = absurd (false≢true k)
-
 -- one of the maxima is the chunk itself
 chunk-few : (f : FixedAsync) (l c : ℕ) (r m : Float) → isFrames (maxInput f l c r m) ≡ true → isFrames (maxOutput f c r m) ≡ true → c ≤ 65536
 unfolding maxInput maxOutput
 chunk-few Input l c r m h k = counted (isSize c) c refl h
 chunk-few Output l c r m h k = counted (isSize c) c refl k
-
--- a maximum of any size holds 0 frames
-none-held : (z : Size) → isFrames z ≡ true → sizeHolds z 0 ≡ true
-none-held (Frames n) h = le-leb 0 n zero-le
-none-held TooLarge h = h
 
 fresh-ready : (r m : Float) (d : PolynomialDegree) (c ch : ℕ) (f : FixedAsync) → atLeastOne m ≡ true → leb 1 c ≡ true → isRatio r ≡ true → isChannels ch ≡ true
     → maximaHold (freshState r m d c ch f) ≡ true → Ready (freshState r m d c ch f)

@@ -1,5 +1,5 @@
--- The ladder of refusals, rung by rung, and what `if !f(x)` tells of the test that f's answer equals. Assumes nothing.
-use mathlib.Core.Bool.{Bool, true, false, not}
+-- The ladder of refusals, rung by rung, what `if !f(x)` tells of the test that f's answer equals, and tests joined by `&`. Assumes nothing.
+use mathlib.Core.Bool.{Bool, true, false, not, _&&_, and-eq-true-iff}
 use mathlib.Core.List.{List}
 use mathlib.Core.Path.{_≡_, refl, sym, _∙_}
 use Prim.Native.Nat.{ℕ}
@@ -23,6 +23,13 @@ failed {r} e t = sym e ∙ not-true r t
 
 pub passed : {r b : Bool} → r ≡ b → not r ≡ false → b ≡ true
 passed {r} e t = sym e ∙ not-false r t
+
+-- two tests joined: both hold, and the one way and the other are the toolchain's law
+pub both : (a b : Bool) → (a && b) ≡ true → (a ≡ true) × (b ≡ true)
+both a b = and-eq-true-iff a b .0
+
+pub join : {a b : Bool} → a ≡ true → b ≡ true → (a && b) ≡ true
+join {a} {b} h k = and-eq-true-iff a b .1 (h, k)
 
 -- a ladder that gives passed its test, and went on
 pub accepted : {A : Type 0} (b : Bool) (n : ℕ) (vs : List Float) (next : Said A) (a : A) → unless b n vs next ≡ given a → (b ≡ true) × (next ≡ given a)

@@ -5,14 +5,14 @@ use Prim.Native.Nat.{ℕ}
 use native.Mathlib.Nat.{le-refl, le-trans}
 use native.Mathlib.Omega.{arith}
 use borrow.Author.Tests.{le-leb}
-use Rattle.error.specs.Refusals.{Said, given}
-use Rattle.error.proofs.Ladder.{accepted}
+use Rattle.error.specs.Refusals.{given}
+use Rattle.error.proofs.Ladder.{join, accepted}
 use Rattle.sizes.specs.Bounds.{isIndex, isChannels, isChunk}
 use Rattle.sizes.proofs.Start.{start-inside}
 use Rattle.state.specs.declared.State.{State}
 use Rattle.state.specs.Record.{pointsIn, isState}
 use Rattle.state.proofs.Points.{points-few}
-use Rattle.state.proofs.Valid.{join, Ready, tests, valid}
+use Rattle.state.proofs.Valid.{Ready, tests, valid}
 use Rattle.state.proofs.Keeps.{update-keeps}
 use Rattle.plan.specs.Plan.{workHolds, shapeHolds, reachHolds, afterBlock, planned, restored, resetting}
 

@@ -11,8 +11,9 @@ use Rattle.sizes.specs.declared.Size.{Size}
 use Rattle.sizes.specs.Sizes.{framesOf}
 use Rattle.state.specs.Record.{pointsIn, maxInputOf, isState}
 use Rattle.state.proofs.Points.{points-few}
-use Rattle.whole.proofs.Sizes.{both}
-use Rattle.state.proofs.Valid.{max-small, valid}
+use Rattle.error.proofs.Ladder.{both}
+use Rattle.sizes.proofs.Read.{max-small}
+use Rattle.state.proofs.Valid.{valid}
 use Rattle.channel.specs.Mask.{maskFits}
 use Rattle.plan.specs.Plan.{readOf, strideOf, workHolds, shareHolds, shapeHolds}
 

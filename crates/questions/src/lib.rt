@@ -63,12 +63,13 @@ pub fn nbr_channels(s: State) -> Count
 
 // The output delay in frames, L*r1/2 truncated.
 pub fn output_delay(s: State) -> Count
-    ensures { λ r. ⌜ saidCount r ≡ asked s (framesOf (delayOf (pointsIn s) (s .current))) ⌝ }
+    ensures { λ r. ⌜ saidCount r ≡ asked s (delayOf (pointsIn s) (s .current)) ⌝ }
 {
-    asked_count(
-        s,
-        sizes::frames_of(sizes::delay_of(state::points_in(s), s.current)),
-    )
+    if state::is_state(s) {
+        Count::Number(sizes::delay_of(state::points_in(s), s.current))
+    } else {
+        Count::Refused(Refusal::StateRecord)
+    }
 }
 
 // The current ratio.

@@ -2,3 +2,5 @@
 pub mod Constants
 pub mod Truncated
 pub mod Start
+pub mod Read
+pub mod Delay

@@ -1,13 +1,19 @@
--- What the code works out of a double is the size that the definition says. Assumes nothing.
-use mathlib.Core.Bool.{true, false, true≢false, false≢true}
-use mathlib.Core.Path.{_≡_, refl, ap, _∙_}
-use Prim.Native.Nat.{ℕ, _+_, _*_, _/_, _<_, _≤_}
-use native.Mathlib.Nat.{le-div-iff-mul-le, mul-one, zero-mul, min-eq-left, div-lt-iff-lt-mul}
+-- What the code works out of a double is the size that the definition says, and the size's truncation is `truncOf`. Assumes nothing.
+use mathlib.Core.Bool.{Bool, true, false, cond, true≢false, false≢true}
+use mathlib.Core.Logic.{inl}
+use mathlib.Core.Path.{_≡_, refl, sym, ap, _∙_}
+use Prim.Native.Nat.{ℕ, _+_, _*_, _/_, _^_, _<_, _≤_}
+use native.Mathlib.Nat.{le-div-iff-mul-le, mul-one, zero-mul, min-eq-left, div-lt-iff-lt-mul, mul-div-cancel}
 use native.Mathlib.Omega.{arith}
 use borrow.Author.Tests.{lt-leb, ltb-true, ltb-false}
-use lib.Ieee.{Float, nan, inf, fin, up, down, lt, ofBits, toUnsigned}
+use lib.Dec.{T}
+use lib.Ieee.{Float, nan, inf, fin, binary64, up, down, fits, lt, ofInt, ofBits, toUnsigned}
+use lib.Ieee.Back.{round-whole}
+use lib.Ieee.Exact.{HasValue}
 use lib.Ieee.Fits.{down-pos}
-use Rattle.exact.specs.Doubles.{zeroF}
+use Rattle.exact.specs.Doubles.{zeroF, count}
+use Rattle.whole.specs.Rounded.{wholeF, madeWhole, truncOf}
+use Rattle.whole.proofs.Held.{next-value, wholeF-value}
 use Rattle.whole.proofs.Sizes.{NotBelow, no-number, endless, a-size, minus-zero, not-below}
 use Rattle.sizes.specs.Bounds.{highF}
 use Rattle.sizes.specs.Sizes.{sizeOf, sizeOfCount}
@@ -47,3 +53,29 @@ size-large (fin false m e) q =
     let h : 131072 * down e ≤ m * up e = simp mul-one at (ltb-false (m * up e * 1) (131072 * down e) q) in
     let k : 131072 ≤ m * up e / down e = le-div-iff-mul-le (down-pos e) .1 h in
     rw (lt-leb (m * up e / down e) 65536 (omega arith))
+
+-- ---- the one truncation: a size is the size of the double truncated, and that of a whole number is its count
+size-whole : (y : Float) (s : Bool) (n : ℕ) → HasValue y s n 1 → sizeOf y ≡ cond s (Frames 0) (sizeOfCount n)
+unfolding sizeOf
+size-whole nan s n v = absurd v
+size-whole (inf t) s n v = absurd v
+size-whole (fin true m e) s n v = ap (λ (b : Bool). cond b (Frames 0) (sizeOfCount n)) (v .0)
+size-whole (fin false m e) s n v =
+    let k : m * up e / down e ≡ n = ap (λ (a : ℕ). a / down e) (sym (mul-one (m * up e)) ∙ v .1) ∙ mul-div-cancel n (down-pos e) in
+    ap sizeOfCount k ∙ ap (λ (b : Bool). cond b (Frames 0) (sizeOfCount n)) (v .0)
+
+pub size-trunc : (x : Float) → T (fits binary64 x) → sizeOf (truncOf x) ≡ sizeOf x
+unfolding sizeOf madeWhole
+size-trunc nan t = refl
+size-trunc (inf s) t = refl
+size-trunc (fin s m e) t =
+    let n = m * up e / down e in
+    size-whole (wholeF s n) s n (wholeF-value s n (next-value binary64 s m e n t (inl refl))) ∙ go s
+  where
+    go : (b : Bool) → cond b (Frames 0) (sizeOfCount (m * up e / down e)) ≡ sizeOf (fin b m e)
+    go true = refl
+    go false = refl
+
+pub size-count : (n : ℕ) → n ≤ 2 ^ 53 → sizeOf (count n) ≡ sizeOfCount n
+unfolding ofInt
+size-count n h = size-whole (count n) false n (round-whole binary64 false n h)

@@ -3,9 +3,9 @@
 use mathlib.Core.Bool.{Bool, true, false}
 use Prim.Native.Nat.{ℕ, _+_, _*_, _/_}
 use lib.Dec.{leb, eqb}
-use lib.Ieee.{Float, nan, inf, fin, up, down, neg, binary64, ofBits}
+use lib.Ieee.{Float, nan, inf, fin, up, down, neg, binary64, ofBits, toUnsigned}
 use Rattle.exact.specs.Doubles.{_+f_, _-f_, _*f_, _/f_, count, halfF, twoF}
-use Rattle.whole.specs.Rounded.{floorOf, ceilOf}
+use Rattle.whole.specs.Rounded.{floorOf, ceilOf, truncOf}
 use Rattle.sizes.specs.declared.Size.{Size}
 use Rattle.sizes.specs.declared.Size.the-variants.{Frames, TooLarge}
 use Rattle.sizes.specs.declared.FixedAsync.{FixedAsync}
@@ -72,10 +72,9 @@ unfolding sizeOf
 maxOutput Input c0 r0 m = sizeOf (count c0 *f r0 *f m +f tenF)
 maxOutput Output c0 r0 m = sizeOfCount c0
 
--- "Output delay is L*r1/2, truncated."
-unfoldable pub delayOf : ℕ → Float → Size
-unfolding sizeOf
-delayOf l r1 = sizeOf (count l *f r1 /f twoF)
+-- "Output delay is L*r1/2, truncated.": the whole number that the truncation is
+unfoldable pub delayOf : ℕ → Float → ℕ
+delayOf l r1 = toUnsigned 64 (truncOf (count l *f r1 /f twoF))
 
 -- ---- reading a size
 abbrev pub isFrames : Size → Bool

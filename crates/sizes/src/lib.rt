@@ -1,8 +1,10 @@
 // Sizes: numbers of frames that are worked out of doubles, in the source's operation order.
 // Only our own crates call these.
+ghost use mathlib.Core.Bool.{true};
 ghost use mathlib.Core.Path.{_≡_};
 ghost use Prim.Native.Nat.{_≤_};
 ghost use Rattle.exact.specs.Doubles.{count};
+ghost use Rattle.sizes.specs.Bounds.{isRatio};
 ghost use Rattle.sizes.specs.Sizes.{
   sizeOf,
   sizeOfCount,
@@ -139,11 +141,13 @@ pub fn calculate_max_output_size(fixed: FixedAsync, chunk0: usize, r0: f64, m: f
     }
 }
 
-pub fn delay_of(l: usize, r1: f64) -> Size
-    ensures { λ r. ⌜ r ≡ delayOf l r1 ⌝ }
+// The output delay: within these bounds it is a whole number of frames that a cast gives.
+pub fn delay_of(l: usize, r1: f64) -> usize
+    requires { ⌜ (1 ≤ l) × (l ≤ 256) × (isRatio r1 ≡ true) ⌝ }
+    ensures { λ n. ⌜ n ≡ delayOf l r1 ⌝ }
 {
     let points = float_of(l);
-    size_of(points * r1 / 2.0)
+    std::num::truncating_f64_to_u64(points * r1 / 2.0) as usize
 }
 
 pub fn is_frames(s: Size) -> bool

@@ -1,20 +1,13 @@
 -- What the one end of every call leaves passes the StateRecord test. Assumes nothing.
 use mathlib.Core.Bool.{true}
-use mathlib.Core.Path.{_≡_, refl, subst}
-use borrow.Author.Tests.{eq-eqb}
-use Rattle.error.specs.Refusals.{Said, given}
+use mathlib.Core.Path.{_≡_, subst}
+use Rattle.error.specs.Refusals.{given}
 use Rattle.error.proofs.Ladder.{accepted, same-given}
-use Rattle.sizes.specs.declared.Size.{Size}
-use Rattle.sizes.specs.declared.Size.the-variants.{Frames, TooLarge}
-use Rattle.sizes.specs.Sizes.{isFrames, framesOf, sizeIs, sizeHolds}
+use Rattle.sizes.specs.Sizes.{isFrames, framesOf, sizeHolds}
+use Rattle.sizes.proofs.Read.{own-size}
 use Rattle.state.specs.declared.State.{State}
 use Rattle.state.specs.Record.{inputOf, outputOf, maxInputOf, isState, withSizes, updateLengths}
 use Rattle.state.proofs.Valid.{Ready, Needed, passes}
-
--- a size that was worked out is the number that is written down
-own-size : (z : Size) → isFrames z ≡ true → sizeIs z (framesOf z) ≡ true
-own-size (Frames n) h = eq-eqb n n refl
-own-size TooLarge h = h
 
 -- ---- one law for every call: all of the test but the needed sizes, which the call's end works out
 pub update-keeps : (s t : State) → Ready s → updateLengths s ≡ given t → isState t ≡ true

@@ -2,4 +2,3 @@
 pub mod Points
 pub mod Valid
 pub mod Keeps
-pub mod Delay

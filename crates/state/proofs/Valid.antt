@@ -1,70 +1,18 @@
 -- What a record that passes the StateRecord test is known to be. Assumes nothing.
-use mathlib.Core.Bool.{Bool, true, false, _&&_, false≢true}
-use mathlib.Core.Path.{_≡_, refl, ap}
-use Prim.Native.Nat.{ℕ, _*_, _/_, _≤_}
+use mathlib.Core.Bool.{true, _&&_}
+use mathlib.Core.Path.{_≡_}
+use Prim.Native.Nat.{_≤_}
 use native.Mathlib.Nat.{le-trans}
-use borrow.Author.Tests.{leb-true, eqb-true}
-use lib.Dec.{leb, lit≤}
-use lib.Ieee.{Float, nan, inf, fin, up, down}
-use Rattle.exact.specs.Doubles.{_+f_, _*f_, _/f_, count, atLeastOne, twoF}
-use Rattle.whole.specs.Rounded.{ceilOf}
-use Rattle.whole.proofs.Sizes.{both}
-use Rattle.sizes.specs.declared.FixedAsync.{FixedAsync}
-use Rattle.sizes.specs.declared.FixedAsync.the-variants.{Input, Output}
-use Rattle.sizes.specs.declared.Size.{Size}
-use Rattle.sizes.specs.declared.Size.the-variants.{Frames, TooLarge}
+use borrow.Author.Tests.{leb-true}
+use lib.Dec.{leb}
+use Rattle.exact.specs.Doubles.{atLeastOne}
+use Rattle.error.proofs.Ladder.{both, join}
+use Rattle.sizes.specs.declared.Size.the-variants.{Frames}
 use Rattle.state.specs.declared.State.{State}
 use Rattle.sizes.specs.Bounds.{isRatio, isChannels, isChunk, isSize, isIndex}
-use Rattle.sizes.specs.Sizes.{sized, sizeOf, sizeOfCount, inputFloat, outputFloat, neededInput, neededOutput, maxInput, isFrames, framesOf, sizeIs, sizeHolds}
+use Rattle.sizes.specs.Sizes.{isFrames, framesOf, sizeIs, sizeHolds}
+use Rattle.sizes.proofs.Read.{input-small, output-small, max-small, size-is, size-holds, is-frames}
 use Rattle.state.specs.Record.{pointsIn, stepNow, stepThen, inputOf, outputOf, maxInputOf, maxOutputOf, countsHold, ratiosHold, maximaHold, sizesHold, isState}
-
--- two tests joined
-pub join : {a b : Bool} → a ≡ true → b ≡ true → (a && b) ≡ true
-join {a} {b} h k = rw (h, k)
-
--- ---- a size is at most 65,536
-counted-small : (b : Bool) (n : ℕ) → isSize n ≡ b → framesOf (sized b n) ≤ 65536
-counted-small true n h = leb-true n 65536 h
-counted-small false n h = lit≤ tt
-
-pub count-small : (n : ℕ) → framesOf (sizeOfCount n) ≤ 65536
-count-small n = counted-small (isSize n) n refl
-
-pub size-small : (x : Float) → framesOf (sizeOf x) ≤ 65536
-unfolding sizeOf
-size-small nan = lit≤ tt
-size-small (inf true) = lit≤ tt
-size-small (inf false) = lit≤ tt
-size-small (fin true m e) = lit≤ tt
-size-small (fin false m e) = count-small (m * up e / down e)
-
-pub input-small : (f : FixedAsync) (l c : ℕ) (i t1 t2 : Float) → framesOf (neededInput f l c i t1 t2) ≤ 65536
-unfolding neededInput
-input-small Input l c i t1 t2 = count-small c
-input-small Output l c i t1 t2 = size-small (inputFloat l c i t1 t2)
-
-pub output-small : (f : FixedAsync) (l c : ℕ) (i t1 t2 : Float) → framesOf (neededOutput f l c i t1 t2) ≤ 65536
-unfolding neededOutput
-output-small Input l c i t1 t2 = size-small (outputFloat l c i t1 t2)
-output-small Output l c i t1 t2 = count-small c
-
-pub max-small : (f : FixedAsync) (l c0 : ℕ) (r0 m : Float) → framesOf (maxInput f l c0 r0 m) ≤ 65536
-unfolding maxInput
-max-small Input l c0 r0 m = count-small c0
-max-small Output l c0 r0 m = size-small (ceilOf (count c0 /f r0 *f m) +f twoF +f count (l / 2))
-
--- ---- reading a size
-pub size-is : (z : Size) (n : ℕ) → sizeIs z n ≡ true → z ≡ Frames n
-size-is (Frames k) n h = ap Frames (eqb-true k n h)
-size-is TooLarge n h = absurd (false≢true h)
-
-pub size-holds : (z : Size) (n : ℕ) → sizeHolds z n ≡ true → n ≤ framesOf z
-size-holds (Frames k) n h = leb-true n k h
-size-holds TooLarge n h = absurd (false≢true h)
-
-pub is-frames : (z : Size) → isFrames z ≡ true → z ≡ Frames (framesOf z)
-is-frames (Frames k) h = refl
-is-frames TooLarge h = absurd (false≢true h)
 
 -- ---- the parts of the test: all but the needed sizes, and these
 pub record Ready (s : State) : Type 0 where

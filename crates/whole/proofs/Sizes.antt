@@ -35,10 +35,6 @@ not-below (fin true zero e) h = minus-zero e
 not-below (fin true (suc m) e) h = absurd (positive m e (simp (zero-mul, mul-one, add-zero) at (ltb-false 0 (suc m * up e * 1 + 0 * down e) h)))
 
 -- ---- `part`: above 0 and below 2 ^ k, which is 2 ^ 52 in the code
-pub both : (a b : Bool) → (a && b) ≡ true → (a ≡ true) × (b ≡ true)
-both true b h = (refl, h)
-both false b h = absurd (false≢true h)
-
 -- what the call of `truncating_f64_to_u64` asks
 pub part-asks : (k : ℕ) (x : Float) → k ≤ 63 → lt x zeroF ≡ false → lt x (fin false 1 (pos k)) ≡ true → T (lt (fin true 1 (pos 0)) x) × T (lt x (fin false 1 (pos 64)))
 unfolding lt

@@ -1,5 +1,8 @@
 -- `questions::input_frames_max` meets its contract. Assumes nothing.
+use mathlib.Core.Path.{ap, _∙_}
 use borrow.Author.Needs.{needs}
+use Rattle.sizes.specs.Sizes.{framesOf}
+use Rattle.questions.specs.Questions.{asked}
 use Rattle.questions.proofs.input_frames_max.Statement.{statement}
 use Rattle.questions.proofs.input_frames_max.Tie as tie
 
@@ -13,7 +16,7 @@ asked-count-requires : tie.Need-asked-count-requires
 asked-count-requires c κs = search needs
 
 returns : tie.Need-returns
-returns c = rw (← c .before .before .max-input-of .ensures, ← c .before .frames-of .ensures) (c .asked-count .ensures)
+returns c = c .asked-count .ensures ∙ ap (asked _) (c .before .frames-of .ensures ∙ ap framesOf (c .before .before .max-input-of .ensures))
 
 pub input-frames-max-spec : {M : Type 1} → statement M
 input-frames-max-spec =

@@ -1,24 +1,36 @@
--- `questions::output_delay` meets its contract. Assumes nothing.
+-- `questions::output_delay` meets its contract: a record that passes the test has a delay. Assumes nothing.
+use mathlib.Core.Path.{sym, ap, _∙_}
 use borrow.Author.Needs.{needs}
+use Rattle.error.specs.Refusals.{given}
+use Rattle.error.proofs.Ladder.{pass, stop}
+use Rattle.state.proofs.Points.{points-between}
+use Rattle.state.proofs.Valid.{valid}
 use Rattle.questions.proofs.output_delay.Statement.{statement}
 use Rattle.questions.proofs.output_delay.Tie as tie
+
+is-state-requires : tie.Need-is-state-requires
+is-state-requires c κs = search needs
 
 points-in-requires : tie.Need-points-in-requires
 points-in-requires c κs = search needs
 
 delay-of-requires : tie.Need-delay-of-requires
-delay-of-requires c κs = search needs
-
-frames-of-requires : tie.Need-frames-of-requires
-frames-of-requires c κs = search needs
-
-asked-count-requires : tie.Need-asked-count-requires
-asked-count-requires c κs = search needs
+delay-of-requires c κs =
+    let s = c .before .before .before .args .s in
+    let h = sym (c .before .before .is-state .ensures) ∙ c .before .if1 .taken in
+    let p = points-between (s .degree) in
+    rw (c .points-in .ensures) (p .0, p .1, valid s h .current-ratio)
 
 returns : tie.Need-returns
-returns c = rw (← c .before .before .before .points-in .ensures, ← c .before .before .delay-of .ensures, ← c .before .frames-of .ensures) (c .asked-count .ensures)
+returns c =
+    let d = c .before .before .before in
+    pass _ _ _ _ _ (sym (d .is-state .ensures) ∙ c .before .before .if1 .taken)
+    (ap given (c .delay-of .ensures ∙ rw (c .before .points-in .ensures)))
+
+returns-2 : tie.Need-returns-2
+returns-2 c = stop _ _ _ _ (sym (c .before .is-state .ensures) ∙ c .if1 .left)
 
 pub output-delay-spec : {M : Type 1} → statement M
 output-delay-spec =
     tie.close
-    (tie.spec points-in-requires delay-of-requires frames-of-requires asked-count-requires returns)
+    (tie.spec is-state-requires points-in-requires delay-of-requires returns returns-2)

@@ -1,4 +1,4 @@
--- `state::sizes::calculate_input_size` meets its contract. Assumes nothing.
+-- `sizes::calculate_input_size` meets its contract. Assumes nothing.
 use borrow.Author.Needs.{needs}
 use Rattle.sizes.specs.Sizes.{neededInput}
 use Rattle.sizes.proofs.calculate_input_size.Statement.{statement}

@@ -1,4 +1,4 @@
--- `state::sizes::calculate_output_size` meets its contract. Assumes nothing.
+-- `sizes::calculate_output_size` meets its contract. Assumes nothing.
 use borrow.Author.Needs.{needs}
 use Rattle.sizes.specs.Sizes.{neededOutput}
 use Rattle.sizes.proofs.calculate_output_size.Statement.{statement}

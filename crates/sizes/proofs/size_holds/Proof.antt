@@ -1,4 +1,4 @@
--- `state::sizes::size_holds` meets its contract. Assumes nothing.
+-- `sizes::size_holds` meets its contract. Assumes nothing.
 use borrow.Author.Needs.{needs}
 use Rattle.sizes.proofs.size_holds.Statement.{statement}
 use Rattle.sizes.proofs.size_holds.Tie as tie

@@ -1,4 +1,4 @@
--- `state::sizes::size_is` meets its contract. Assumes nothing.
+-- `sizes::size_is` meets its contract. Assumes nothing.
 use borrow.Author.Needs.{needs}
 use Rattle.sizes.proofs.size_is.Statement.{statement}
 use Rattle.sizes.proofs.size_is.Tie as tie

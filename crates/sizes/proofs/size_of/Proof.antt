@@ -1,4 +1,4 @@
--- `state::sizes::size_of` meets its contract: a double below 0 is no frame, one from 2 ^ 17 on is too many, and any other has its whole part. Assumes nothing.
+-- `sizes::size_of` meets its contract: a double below 0 is no frame, one from 2 ^ 17 on is too many, and any other has its whole part. Assumes nothing.
 use mathlib.Core.Path.{sym, _∙_}
 use borrow.Author.Needs.{needs}
 use lib.Ieee.{ofBits}

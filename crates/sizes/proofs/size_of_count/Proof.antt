@@ -1,4 +1,4 @@
--- `state::sizes::size_of_count` meets its contract. Assumes nothing.
+-- `sizes::size_of_count` meets its contract. Assumes nothing.
 use borrow.Author.Tests.{le-leb, lt-leb}
 use Rattle.sizes.proofs.size_of_count.Statement.{statement}
 use Rattle.sizes.proofs.size_of_count.Tie as tie

@@ -1,4 +1,4 @@
--- `state::sizes::start_index` meets its contract. Assumes nothing.
+-- `sizes::start_index` meets its contract. Assumes nothing.
 use borrow.Author.Needs.{needs}
 use Rattle.sizes.proofs.start_index.Statement.{statement}
 use Rattle.sizes.proofs.start_index.Tie as tie

@@ -1,4 +1,4 @@
--- `state::record::counts_hold` meets its contract. Assumes nothing.
+-- `state::counts_hold` meets its contract. Assumes nothing.
 use borrow.Author.Needs.{needs}
 use Rattle.state.proofs.counts_hold.Statement.{statement}
 use Rattle.state.proofs.counts_hold.Tie as tie

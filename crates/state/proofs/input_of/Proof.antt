@@ -1,4 +1,4 @@
--- `state::record::input_of` meets its contract. Assumes nothing.
+-- `state::input_of` meets its contract. Assumes nothing.
 use borrow.Author.Needs.{needs}
 use Rattle.state.proofs.input_of.Statement.{statement}
 use Rattle.state.proofs.input_of.Tie as tie

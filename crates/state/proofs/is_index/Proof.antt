@@ -1,4 +1,4 @@
--- `state::record::is_index` meets its contract. Assumes nothing.
+-- `state::is_index` meets its contract. Assumes nothing.
 use mathlib.Core.Path.{refl}
 use lib.Ieee.{ofBits, neg}
 use Rattle.state.proofs.is_index.Statement.{statement}

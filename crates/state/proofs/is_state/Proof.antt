@@ -1,4 +1,4 @@
--- `state::record::is_state` meets its contract. Assumes nothing.
+-- `state::is_state` meets its contract. Assumes nothing.
 use borrow.Author.Needs.{needs}
 use Rattle.state.specs.Record.{isState}
 use Rattle.state.proofs.is_state.Statement.{statement}

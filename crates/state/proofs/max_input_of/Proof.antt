@@ -1,4 +1,4 @@
--- `state::record::max_input_of` meets its contract. Assumes nothing.
+-- `state::max_input_of` meets its contract. Assumes nothing.
 use borrow.Author.Needs.{needs}
 use Rattle.state.proofs.max_input_of.Statement.{statement}
 use Rattle.state.proofs.max_input_of.Tie as tie

@@ -1,4 +1,4 @@
--- `state::record::maxima_hold` meets its contract. Assumes nothing.
+-- `state::maxima_hold` meets its contract. Assumes nothing.
 use borrow.Author.Needs.{needs}
 use Rattle.state.proofs.maxima_hold.Statement.{statement}
 use Rattle.state.proofs.maxima_hold.Tie as tie

@@ -1,4 +1,4 @@
--- `state::record::output_of` meets its contract. Assumes nothing.
+-- `state::output_of` meets its contract. Assumes nothing.
 use borrow.Author.Needs.{needs}
 use Rattle.state.proofs.Points.{points-between}
 use Rattle.state.proofs.output_of.Statement.{statement}

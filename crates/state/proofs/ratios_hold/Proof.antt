@@ -1,4 +1,4 @@
--- `state::record::ratios_hold` meets its contract. Assumes nothing.
+-- `state::ratios_hold` meets its contract. Assumes nothing.
 use borrow.Author.Needs.{needs}
 use Rattle.state.proofs.ratios_hold.Statement.{statement}
 use Rattle.state.proofs.ratios_hold.Tie as tie

@@ -1,4 +1,4 @@
--- `state::record::sizes_hold` meets its contract. Assumes nothing.
+-- `state::sizes_hold` meets its contract. Assumes nothing.
 use borrow.Author.Needs.{needs}
 use Rattle.state.proofs.sizes_hold.Statement.{statement}
 use Rattle.state.proofs.sizes_hold.Tie as tie

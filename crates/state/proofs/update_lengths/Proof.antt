@@ -1,4 +1,4 @@
--- `state::record::update_lengths` meets its contract: refusal 6 in its three places, then the record put together. Assumes nothing.
+-- `state::update_lengths` meets its contract: refusal 6 in its three places, then the record put together. Assumes nothing.
 use mathlib.Core.Path.{_≡_, sym, ap, _∙_}
 use mathlib.Core.Bool.{true, false}
 use borrow.Author.Needs.{needs}
