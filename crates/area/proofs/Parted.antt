@@ -7,7 +7,8 @@ use native.Mathlib.Numerals.{add-one}
 use native.Mathlib.Omega.{arith}
 use lib.ListN.{length, take, drop, length-append, length-drop}
 use lib.Seq.{length-take-le, take-at, drop-at, drop-drop, take-add}
-use Rattle.area.specs.Parts.{partOf, partsTo, eachPart, onePart}
+use Rattle.area.specs.Parts.{partOf, partsTo, eachPart}
+use Rattle.area.specs.Turns.{onePart}
 
 -- w is w₀ with its first c parts made anew
 pub record Parted {A : Type 0} (g : ℕ → List A → List A) (share : ℕ) (w₀ w : List A) (c : ℕ) : Type 0 where

@@ -1,6 +1,6 @@
 -- A flat area of equal parts, "channel after channel". Definitions only.
 use mathlib.Core.List.{List, [], _++_}
-use Prim.Native.Nat.{ℕ, zero, suc, _+_, _*_}
+use Prim.Native.Nat.{ℕ, zero, suc, _*_}
 use lib.ListN.{take, drop}
 
 -- the part of the channel c, of share samples
@@ -16,7 +16,3 @@ partsTo g share w (suc c) = partsTo g share w c ++ g c (partOf share c w)
 unfoldable pub eachPart : {A : Type 0} → (ℕ → List A → List A) → ℕ → ℕ → List A → List A
 unfolding partsTo
 eachPart g share n w = partsTo g share w n ++ drop (n * share) w
-
--- w with its part c alone made anew: a turn of a loop over the parts
-abbrev pub onePart : {A : Type 0} → (ℕ → List A → List A) → ℕ → ℕ → List A → List A
-onePart g share c w = take (c * share) w ++ g c (partOf share c w) ++ drop (c * share + share) w

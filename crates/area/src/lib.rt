@@ -4,7 +4,7 @@ ghost use mathlib.Core.Path.{_≡_};
 ghost use Prim.Native.Nat.{_+_, _*_, _<_, _≤_};
 ghost use lib.ListN.{length, replicate};
 ghost use Rattle.exact.specs.Doubles.{zeroF};
-ghost use Rattle.area.specs.Parts.{onePart};
+ghost use Rattle.area.specs.Turns.{onePart};
 ghost use Rattle.area.specs.Moves.{movedIn, movedAll, loadedIn, loadedAll};
 
 // The move in the channel c, whose part of the working area is lent.

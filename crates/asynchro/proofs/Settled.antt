@@ -32,9 +32,6 @@ unfolding doneOf
 done-back done.Accepted = refl
 done-back (done.Refused r) = ap done.Refused (refusal-back r)
 
-pub done-settled : (a b : Done) → saidDone a ≡ saidDone b → a ≡ b
-done-settled = settled saidDone doneOf done-back
-
 outcomeOf : Result Unit → Outcome
 outcomeOf r = record { state = r .state; answer = doneOf (r .said) }
 

@@ -18,7 +18,8 @@ use Rattle.path.specs.declared.Moment.{Moment}
 use Rattle.path.specs.declared.Place.{Place}
 use Rattle.path.specs.Path.{stepIndex, pathAt}
 use Rattle.path.specs.Places.{placeOf, shiftOf, lastOf}
-use Rattle.frames.specs.Run.{valueAt, framesTo, wroteIn, wroteAll, ranIn, ranAll}
+use Rattle.frames.specs.Run.{valueAt, framesTo, ranIn, ranAll}
+use Rattle.frames.specs.Turns.{wroteIn, wroteAll}
 use Rattle.path.proofs.Path.{path-next}
 use Rattle.frames.proofs.Frames.{frameOf, frames-long, frame-next}
 

@@ -1,2 +1,3 @@
 -- The frames of a block. Definitions only.
 pub mod Run
+pub mod Turns

@@ -2,7 +2,7 @@
 use mathlib.Core.List.{List, [], _∷_, _++_}
 use Prim.Native.Nat.{ℕ, zero, suc}
 use lib.Ieee.{Float}
-use lib.ListN.{take, drop, set}
+use lib.ListN.{take, drop}
 use lib.Seq.{paste}
 use Rattle.exact.specs.Doubles.{zeroF}
 use Rattle.asynchro_fast.specs.declared.PolynomialDegree.{PolynomialDegree}
@@ -28,13 +28,6 @@ unfolding valueAt placeFrom pathAt
 framesTo degree needed work t d i zero = []
 framesTo degree needed work t d i (suc f) =
     framesTo degree needed work t d i f ++ (valueAt degree work (placeOf (shiftOf degree) (lastOf degree needed) (pathAt t d i (suc f) .index)) ∷ [])
-
--- one frame, with its place p, at place k of channel c's share of the output, and of every channel's
-abbrev pub wroteIn : PolynomialDegree → ℕ → List Float → ℕ → Place → ℕ → ℕ → List Float → List Float
-wroteIn degree mask work stride p k c o = whereOn (isOn mask c) (set o k (valueAt degree (partOf stride c work) p)) o
-
-abbrev pub wroteAll : PolynomialDegree → ℕ → List Float → ℕ → Place → ℕ → ℕ → ℕ → List Float → List Float
-wroteAll degree mask work stride p k share channels = eachPart (wroteIn degree mask work stride p k) share channels
 
 -- channel c's share of the output: its n frames from place `at` on; a switched-off channel's share stays
 abbrev pub ranIn : PolynomialDegree → ℕ → ℕ → List Float → ℕ → Float → Float → Float → ℕ → ℕ → ℕ → List Float → List Float

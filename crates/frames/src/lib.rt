@@ -7,8 +7,9 @@ ghost use Prim.Native.Nat.{_+_, _*_, _<_, _≤_};
 ghost use lib.ListN.{length, set};
 ghost use Rattle.asynchro_fast.specs.Degrees.{pointsOf};
 ghost use Rattle.channel.specs.Mask.{whereOn};
-ghost use Rattle.path.specs.Places.{Reaches};
-ghost use Rattle.frames.specs.Run.{valueAt, wroteAll, ranAll};
+ghost use Rattle.path.specs.Turns.{Reaches};
+ghost use Rattle.frames.specs.Run.{valueAt, ranAll};
+ghost use Rattle.frames.specs.Turns.{wroteAll};
 
 // A frame's value in one channel.
 fn value(degree: PolynomialDegree, work: &[f64], p: Place) -> f64

@@ -12,8 +12,9 @@ use Rattle.asynchro_fast.specs.declared.PolynomialDegree.{PolynomialDegree}
 use Rattle.asynchro_fast.specs.Degrees.{pointsOf}
 use Rattle.asynchro_fast.proofs.Laws.{points-small}
 use Rattle.path.specs.declared.Place.{Place}
-use Rattle.path.specs.declared.Place.the-variants.{At, Out}
-use Rattle.path.specs.Places.{within, placeFrom, placeOf, shiftOf, lastOf, Reaches}
+use Rattle.path.specs.declared.Place.the-variants.{At}
+use Rattle.path.specs.Places.{within, placeFrom, placeOf, shiftOf, lastOf}
+use Rattle.path.specs.Turns.{Reaches}
 
 -- the code's places stay below 2 ^ 17
 pub shift-small : (degree : PolynomialDegree) → shiftOf degree < 131072

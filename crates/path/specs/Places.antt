@@ -1,6 +1,6 @@
 -- Document 01, "Block run", 4 and Reach: where a frame's neighbours begin, and whether they are all there. Definitions only.
 use mathlib.Core.Bool.{Bool, true, false, _&&_}
-use Prim.Native.Nat.{ℕ, zero, suc, _+_, _-_, _*_, _/_, _≤_}
+use Prim.Native.Nat.{ℕ, zero, suc, _+_, _-_, _*_, _/_}
 use lib.Dec.{leb}
 use lib.Ieee.{Float, nan, inf, fin, up, down}
 use Rattle.whole.specs.Rounded.{splitOf}
@@ -44,8 +44,3 @@ unfoldable pub allReach : ℕ → ℕ → Float → Float → Float → ℕ → 
 unfolding placeFrom pathAt
 allReach shift last t d i zero = true
 allReach shift last t d i (suc f) = allReach shift last t d i f && isAt (placeOf shift last (pathAt t d i (suc f) .index))
-
--- the neighbours that begin there end within n samples
-abbrev pub Reaches : PolynomialDegree → Place → ℕ → Type 0
-Reaches d (At s x) n = s + pointsOf d ≤ n
-Reaches d Out n = Unit

@@ -3,7 +3,7 @@ use mathlib.Core.List.{List}
 use mathlib.Core.Path.{_≡_, refl, sym, ap, _∙_}
 use lib.Ieee.{Float}
 use Rattle.error.specs.Refusals.{Said, given, refused}
-use Rattle.error.proofs.Settled.{refusalOf, refusal-back, settled}
+use Rattle.error.proofs.Settled.{refusalOf, refusal-back}
 use Rattle.asynchro.specs.declared.Outcome.{Outcome}
 use Rattle.asynchro.proofs.Settled.{outcome-settled}
 use Rattle.process.specs.declared.Sizes.{Sizes}
@@ -20,9 +20,6 @@ ran-back : (a : Ran) → ranOf (saidRan a) ≡ a
 unfolding ranOf
 ran-back (ran.Used z) = refl
 ran-back (ran.Refused r) = ap ran.Refused (refusal-back r)
-
-pub ran-settled : (a b : Ran) → saidRan a ≡ saidRan b → a ≡ b
-ran-settled = settled saidRan ranOf ran-back
 
 -- ---- the block: the outcome and both areas
 outcomeOf : Block Sizes → BlockOutcome

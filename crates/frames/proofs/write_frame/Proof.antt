@@ -6,7 +6,7 @@ use denote.Ref.{now}
 use lib.ListN.{length}
 use Rattle.area.proofs.Parts.{room}
 use Rattle.area.proofs.Parted.{Parted, parted-none, parted-done, lent-long}
-use Rattle.frames.specs.Run.{wroteIn}
+use Rattle.frames.specs.Turns.{wroteIn}
 use Rattle.path.proofs.Places.{reach-same}
 use Rattle.frames.proofs.Run.{wrote-next}
 use Rattle.frames.proofs.write_frame.Statement.{statement}
