@@ -65,13 +65,13 @@ relativeHolds m rel = le (oneF /f m) rel && le rel m
 abbrev pub withRatio : State → Float → Bool → State
 withRatio s r ramp = changed s (s .chunk) (s .input) (s .output) (s .fill) (s .index) (cond ramp (s .current) r) r
 
--- the new ratio r, which passes under 4 where `accepted` holds; "in both forms provided is the new ratio"
+-- the new ratio, which passes under 4 where `accepted` holds; "in both forms provided is the new ratio"
 abbrev pub applied : State → Bool → Float → Bool → Said State
-applied s accepted r ramp =
+applied s accepted ratio ramp =
     unless (isState s) 10 []
-    (unless accepted 4 (r ∷ s .original ∷ s .m ∷ [])
-    (unless (isRatio r) 5 (r ∷ [])
-    (updateLengths (withRatio s r ramp))))
+    (unless accepted 4 (ratio ∷ s .original ∷ s .m ∷ [])
+    (unless (isRatio ratio) 5 (ratio ∷ [])
+    (updateLengths (withRatio s ratio ramp))))
 
 -- "An absolute setting divides by the original ratio to get rel"
 abbrev pub setRatio : State → Float → Bool → Result Unit
@@ -87,10 +87,7 @@ withChunk s n = changed s n (s .input) (s .output) (s .fill) (s .index) (s .curr
 
 -- "chunk 0; on a later setting also above the construction chunk"
 abbrev pub chunked : State → ℕ → Said State
-chunked s n =
-    unless (isState s) 10 []
-    (unless (leb 1 n && leb n (s .chunk0)) 3 []
-    (updateLengths (withChunk s n)))
+chunked s n = unless (isState s) 10 [] (unless (leb 1 n && leb n (s .chunk0)) 3 [] (updateLengths (withChunk s n)))
 
 abbrev pub setChunk : State → ℕ → Result Unit
 setChunk s n = endOf s (chunked s n)
