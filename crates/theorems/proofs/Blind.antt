@@ -1,6 +1,6 @@
 -- Document 01: "No refusal, size or index depends on a sample." Two blocks on one record whose areas have the same lengths leave the same record and say the same, whatever the samples. Assumes nothing.
 use mathlib.Core.List.{List}
-use mathlib.Core.Path.{_≡_, refl, ap, _∙_}
+use mathlib.Core.Path.{_≡_, refl}
 use Prim.Native.Nat.{ℕ}
 use lib.Ieee.{Float}
 use lib.ListN.{length}

@@ -1,19 +1,18 @@
 -- Document 01, "Bench cases": the twelve, in one table, over the definitions that the public calls are proved equal to. Definitions only.
 -- A row has what the definitions give and what document 01 has under "Found". proofs/Bench.antt shows the one fact about the table: in each row the two are equal.
-use mathlib.Core.Bool.{Bool, true, false}
+use mathlib.Core.Bool.{true, false}
 use mathlib.Core.List.{List, [], _∷_, _++_, map}
-use Prim.Native.Nat.{ℕ, zero, suc}
-use lib.IntN.{ℤ, pos, negsuc}
+use Prim.Native.Nat.{ℕ}
+use lib.IntN.{ℤ, pos}
 use lib.Ieee.{Float, neg, binary64, ofBits}
-use lib.ListN.{replicate, length}
+use lib.ListN.{replicate}
 use Rattle.exact.specs.Doubles.{count, zeroF, oneF, halfF}
 use Rattle.error.specs.Refusals.{Said, given, refused}
 use Rattle.asynchro_fast.specs.declared.PolynomialDegree.{PolynomialDegree}
-use Rattle.asynchro_fast.specs.declared.PolynomialDegree.the-variants.{Nearest, Linear, Cubic, Quintic, Septic}
+use Rattle.asynchro_fast.specs.declared.PolynomialDegree.the-variants.{Nearest, Linear, Septic}
 use Rattle.asynchro_sinc.specs.Blends.{blendSaid, sincQuad}
 use Rattle.interpolation.specs.declared.Point.{Point}
 use Rattle.interpolation.specs.Grid.{nearest2, nearest4}
-use Rattle.sizes.specs.declared.FixedAsync.{FixedAsync}
 use Rattle.sizes.specs.declared.FixedAsync.the-variants.{Input, Output}
 use Rattle.state.specs.declared.State.{State}
 use Rattle.asynchro.specs.Calls.{Result, construct, setRatio}
@@ -60,8 +59,9 @@ silence s = replicate (s .input) zeroF
 abbrev pub zeros : State → List Float
 zeros s = replicate (strideOf s) zeroF
 
-abbrev pub after : State → State
-after s = blockOn s (silence s) (zeros s) .state
+-- the first block of a record, on silence and a working area of zeros
+abbrev pub firstBlock : State → Block Sizes
+firstBlock s = blockOn s (silence s) (zeros s)
 
 -- ---- the doubles of the table
 abbrev pub sixteenthF : Float
@@ -84,15 +84,22 @@ first = construct sixteenthF (count 16) Septic 1024 1 Input
 abbrev pub case-1 : Case
 case-1 = record {
   number = 1;
-  gives = built first (λ s. size (s .output) ∷ double (after s .index) ∷ size (after s .output) ∷ []);
+  gives = built first (λ s. size (s .output) ∷ double (firstBlock s .state .index) ∷ size (firstBlock s .state .output) ∷ []);
   found = size 63 ∷ double (neg (count 20)) ∷ size 64 ∷ [];
 }
 
 -- 2: then ratio 1, no ramp: out 1035; the block is refused 9
+-- b is the block of case 1: its record is set to ratio 1, and the working area that it left is lent to the next block
+abbrev pub nextBlock : State → List Float → List Item
+nextBlock s work = size (s .output) ∷ blockSaid (blockOn s (silence s) work)
+
+abbrev pub atRatio1 : Block Sizes → List Item
+atRatio1 b = nextBlock (setRatio (b .state) oneF false .state) (b .work)
+
 abbrev pub case-2 : Case
 case-2 = record {
   number = 2;
-  gives = built first (λ s. size (setRatio (after s) oneF false .state .output) ∷ blockSaid (blockOn (setRatio (after s) oneF false .state) (silence s) (zeros s)));
+  gives = built first (λ s. atRatio1 (firstBlock s));
   found = size 1035 ∷ refusal 9 ∷ [];
 }
 
@@ -103,7 +110,7 @@ third = construct oneF oneF Linear 4 1 Output
 abbrev pub case-3 : Case
 case-3 = record {
   number = 3;
-  gives = built third (λ s. size (s .input) ∷ double (after s .index) ∷ size (after s .input) ∷ []);
+  gives = built third (λ s. size (s .input) ∷ double (firstBlock s .state .index) ∷ size (firstBlock s .state .input) ∷ []);
   found = size 5 ∷ double (neg (count 2)) ∷ size 4 ∷ [];
 }
 
@@ -131,7 +138,7 @@ case-5 a b = record {
 
 -- 6: Linear, fixed output 4, m 2, ramp 1 to 0.5: in 8, d 0.25, index -2.5
 abbrev pub ramped : State → List Item
-ramped s = size (s .input) ∷ double (incrementOf s) ∷ double (after s .index) ∷ []
+ramped s = size (s .input) ∷ double (incrementOf s) ∷ double (firstBlock s .state .index) ∷ []
 
 abbrev pub case-6 : Case
 case-6 = record {
@@ -144,7 +151,7 @@ case-6 = record {
 abbrev pub case-7 : Case
 case-7 = record {
   number = 7;
-  gives = built (construct oneF oneF Septic 1 1 Input) (λ s. size (s .output) ∷ double (after s .index) ∷ []);
+  gives = built (construct oneF oneF Septic 1 1 Input) (λ s. size (s .output) ∷ double (firstBlock s .state .index) ∷ []);
   found = size 0 ∷ double (neg (count 5)) ∷ [];
 }
 
@@ -153,11 +160,17 @@ abbrev pub case-8 : PolynomialDegree → Case
 case-8 degree = record { number = 8; gives = built (construct halfF oneF degree 65536 1 Output) (λ s. []); found = refusal 6 ∷ [] }
 
 -- 9: Linear, fixed output 4, r 1, m 2, settings 0.5, 2, 2.5: yes, yes, refused 4
-abbrev pub settings : State → List Item
-settings s = settingSaid (setRatio s halfF false) ++ settingSaid (setRatio s (count 2) false) ++ settingSaid (setRatio s (ofBits binary64 0x4004_0000_0000_0000) false)
+-- one after the other, each on the record that the last one left
+abbrev pub settings : State → List Float → List Item
+settings s [] = []
+settings s (r ∷ rs) = settingSaid (setRatio s r false) ++ settings (setRatio s r false .state) rs
 
 abbrev pub case-9 : Case
-case-9 = record { number = 9; gives = built (construct oneF (count 2) Linear 4 1 Output) settings; found = accepted ∷ accepted ∷ refusal 4 ∷ [] }
+case-9 = record {
+  number = 9;
+  gives = built (construct oneF (count 2) Linear 4 1 Output) (λ s. settings s (halfF ∷ count 2 ∷ ofBits binary64 0x4004_0000_0000_0000 ∷ []));
+  found = accepted ∷ accepted ∷ refusal 4 ∷ [];
+}
 
 -- 10: four points, t 2.75, factor 4: (2,2) (2,3) (3,0) (3,1)
 abbrev pub points : Said (List Point) → List Item
@@ -186,6 +199,6 @@ case-12 = record {
   found = double quarterF ∷ [];
 }
 
--- the table; a and b of case 5 are any samples, case 8 is asked of Linear
-unfoldable pub bench : Float → Float → List Case
-bench a b = case-1 ∷ case-2 ∷ case-3 ∷ case-4 ∷ case-5 a b ∷ case-6 ∷ case-7 ∷ case-8 Linear ∷ case-9 ∷ case-10 ∷ case-11 ∷ case-12 ∷ []
+-- the table; a and b of case 5 are any samples, the degree of case 8 is any
+unfoldable pub bench : Float → Float → PolynomialDegree → List Case
+bench a b degree = case-1 ∷ case-2 ∷ case-3 ∷ case-4 ∷ case-5 a b ∷ case-6 ∷ case-7 ∷ case-8 degree ∷ case-9 ∷ case-10 ∷ case-11 ∷ case-12 ∷ []

@@ -1,2 +1,3 @@
--- The table of bench cases. Definitions only.
+-- The table of bench cases, and a frame's neighbours. Definitions only.
 pub mod Bench
+pub mod Neighbours
