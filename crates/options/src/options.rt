@@ -1,7 +1,7 @@
 // The words of the command line.
 use crate::messages::say;
 use crate::messages::say_start;
-use pass::Number;
+use decimals::Number;
 use text::Parsed;
 
 // What the words ask for. `input`, `output` and `log` are the places of files among the words, 0 where
@@ -159,7 +159,7 @@ fn bad_count(o: Options, name: &[u8], word: &[u8]) -> Options {
 }
 
 pub fn with_ratio(o: Options, word: &[u8]) -> Options {
-    match pass::number_of(word) {
+    match decimals::number_of(word) {
         Number::Bad => bad_number(o, b"--ratio", word),
         Number::Value(x) => {
             let mut p = o;
@@ -171,7 +171,7 @@ pub fn with_ratio(o: Options, word: &[u8]) -> Options {
 }
 
 pub fn with_m(o: Options, word: &[u8]) -> Options {
-    match pass::number_of(word) {
+    match decimals::number_of(word) {
         Number::Bad => bad_number(o, b"--m", word),
         Number::Value(x) => {
             let mut p = o;
@@ -334,7 +334,7 @@ pub fn with_change(
     let Parsed::Number(block) = text::decimal_of(first) else {
         return bad_count(o, b"the block of a ratio change", first);
     };
-    let Number::Value(ratio) = pass::number_of(second) else {
+    let Number::Value(ratio) = decimals::number_of(second) else {
         return bad_number(o, b"a ratio change", second);
     };
     keep_change(o, block, ratio, ramp, changes)

@@ -2,8 +2,8 @@
 use options::say;
 use options::say_number;
 use options::say_start;
-use pass::least;
 use printer::bytes_of;
+use samples::least;
 ghost use Prim.Native.Nat.{_*_, _≤_};
 ghost use lib.ListN.{length};
 
@@ -27,9 +27,9 @@ fn first_tones() -> Tones {
 // Twice the cosine of the tone's angle a frame.
 fn next_tones(t: Tones) -> Tones {
     Tones {
-        low: pass::tone_next(1.9966836332280566, t.low, t.low_before),
+        low: samples::tone_next(1.9966836332280566, t.low, t.low_before),
         low_before: t.low,
-        high: pass::tone_next(1.9828897227476208, t.high, t.high_before),
+        high: samples::tone_next(1.9828897227476208, t.high, t.high_before),
         high_before: t.high,
     }
 }
@@ -37,8 +37,8 @@ fn next_tones(t: Tones) -> Tones {
 fn put_frame(bytes: &mut [u8], at: usize, t: Tones) {
     if at < bytes.len() {
         if 16 <= bytes.len() - at {
-            pass::put_sample(bytes, at, t.low_before);
-            pass::put_sample(bytes, at + 8, t.high_before);
+            samples::put_sample(bytes, at, t.low_before);
+            samples::put_sample(bytes, at + 8, t.high_before);
         }
     }
 }

@@ -1,0 +1,3 @@
+-- Laws that the proofs here share. Assumes nothing.
+pub mod Taken
+pub mod Pieces

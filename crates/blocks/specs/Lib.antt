@@ -1,0 +1,2 @@
+-- The samples of a block of a file. Definitions only.
+pub mod Blocks

@@ -1,0 +1,3 @@
+-- Laws that the proofs here share, and what a reader may ask: a word's number is rounded once. Assumes nothing.
+pub mod Words
+pub mod Once

@@ -1,0 +1,2 @@
+-- Numbers as words. Definitions only.
+pub mod Numbers

@@ -1,0 +1,5 @@
+// Numbers as words: the double of a decimal, of a quotient or of its bits in hex, each rounded once.
+mod numbers;
+
+pub use numbers::Number;
+pub use numbers::number_of;

@@ -1,6 +1,0 @@
--- Laws that the proofs here share, and what a reader may ask of a pass: each sample stands in its place, and bytes are read back. Assumes nothing.
-pub mod Words
-pub mod Bytes
-pub mod Places
-pub mod Products
-pub mod Once

@@ -1,0 +1,81 @@
+-- A pattern and its eight bytes: the loop that puts them, and the pattern read back. Assumes nothing.
+use mathlib.Core.List.{List, [], _∷_, _++_}
+use mathlib.Core.Path.{_≡_, refl, sym, ap, _∙_}
+use Prim.Native.Nat.{ℕ, zero, suc, _+_, _*_, _/_, _%_, _^_, _<_, _≤_}
+use native.Mathlib.Nat.{mod-one, mod-eq-of-lt, div-one}
+use native.Mathlib.Numerals.{add-one}
+use native.Mathlib.Omega.{arith}
+use lib.Arith.{mod-mul}
+use lib.Dec.{lit<}
+use lib.Pow.{pow-pos, pow-add, shr-shr}
+use lib.ListN.{length, getD, set, take, drop, length-set, List·getD-append}
+use lib.Seq.{paste, paste-zero, paste-suc, length-paste-head, length-take-le, getD-append-add, getD-take}
+use Rattle.samples.specs.Samples.{littleAt, bytesFrom, eightOf}
+
+pub length-bytes : (n j k : ℕ) → length (bytesFrom n j k) ≡ k
+unfolding bytesFrom
+length-bytes n j zero = refl
+length-bytes n j (suc k) = ap suc (length-bytes n (j + 1) k)
+
+pub byte-at : (n j k i : ℕ) → i < k → getD (bytesFrom n j k) i 0 ≡ n / 2 ^ (8 * (j + i)) % 256
+unfolding bytesFrom
+byte-at n j zero i l = absurd (omega arith)
+byte-at n j (suc k) zero l =
+    let e : j ≡ j + 0 = omega arith in
+    ap (λ (i : ℕ). n / 2 ^ (8 * i) % 256) e
+byte-at n j (suc k) (suc i) l =
+    let e : j + 1 + i ≡ j + suc i = omega arith in
+    byte-at n (j + 1) k i (omega arith) ∙ ap (λ (i : ℕ). n / 2 ^ (8 * i) % 256) e
+
+-- ---- x is d with the first k bytes of n from the place at on
+pub record Put (d : List ℕ) (at n : ℕ) (x : List ℕ) (k : ℕ) : Type 0 where
+  pub long : length x ≡ length d
+  pub is : x ≡ paste d at (eightOf n) k
+
+pub put-none : (d : List ℕ) (at n : ℕ) → Put d at n d 0
+put-none d at n = record { long = refl; is = paste-zero d at (eightOf n) }
+
+pub put-next : (d : List ℕ) (at n : ℕ) (x : List ℕ) (k v : ℕ) → Put d at n x k → at + 8 ≤ length d → k < 8
+    → v ≡ n / 2 ^ (8 * k) % 256 → Put d at n (set x (at + k) v) (k + 1)
+put-next d at n x k v p h l e =
+    let b : n / 2 ^ (8 * k) % 256 ≡ getD (eightOf n) k 0 = sym (byte-at n 0 8 k l ∙ ap (λ (i : ℕ). n / 2 ^ (8 * i) % 256) (omega arith)) in
+    record {
+      long = simp length-set (p .long);
+      is = rw (p .is, e, b, add-one) (paste-suc d at (eightOf n) k 0 (omega arith) (omega (arith, length-bytes n 0 8)));
+    }
+
+pub put-done : (d : List ℕ) (at n m : ℕ) (x : List ℕ) (k : ℕ) → Put d at n x k → k ≡ 8 → n ≡ m → x ≡ paste d at (eightOf m) 8
+put-done d at n m x k p e f = p .is ∙ ap (λ (j : ℕ). paste d at (eightOf n) j) e ∙ ap (λ (m : ℕ). paste d at (eightOf m) 8) f
+
+-- ---- what a reader may ask: a pattern that was put is read back
+unfoldable joined : List ℕ → ℕ
+joined [] = 0
+joined (b ∷ bs) = b + 256 * joined bs
+
+joined-is : (n j k : ℕ) → joined (bytesFrom n j k) ≡ n / 2 ^ (8 * j) % 2 ^ (8 * k)
+unfolding joined bytesFrom
+joined-is n j zero = sym (mod-one (n / 2 ^ (8 * j)))
+joined-is n j (suc k) =
+    let m = n / 2 ^ (8 * j) in
+    let e : 8 * j + 8 ≡ 8 * (j + 1) = omega arith in
+    let up : n / 2 ^ (8 * (j + 1)) ≡ m / 256 = sym (shr-shr n (8 * j) 8 ∙ ap (λ (i : ℕ). n / 2 ^ i) e) in
+    let wide : 2 ^ (8 * k) * 256 ≡ 2 ^ (8 * suc k) = sym (pow-add 2 (8 * k) 8) ∙ ap (λ (i : ℕ). 2 ^ i) (omega arith) in
+    let rest : joined (bytesFrom n (j + 1) k) ≡ m / 256 % 2 ^ (8 * k) = joined-is n (j + 1) k ∙ ap (λ (i : ℕ). i % 2 ^ (8 * k)) up in
+    let whole : m % (2 ^ (8 * k) * 256) ≡ (m / 256 % 2 ^ (8 * k)) * 256 + m % 256 = mod-mul m (pow-pos (8 * k)) (lit< tt) in
+    let sum : m % 256 + 256 * joined (bytesFrom n (j + 1) k) ≡ m % (2 ^ (8 * k) * 256) = omega (arith, rest, whole) in
+    sum ∙ ap (λ (i : ℕ). m % i) wide
+
+pasted-get : (b : List ℕ) (at : ℕ) (s : List ℕ) (n k : ℕ) → at + n ≤ length b → n ≤ length s → k < n → getD (paste b at s n) (at + k) 0 ≡ getD s k 0
+pasted-get b at s n k room has l =
+    let long : length (take at b) ≡ at = length-take-le at b (omega arith) in
+    List·getD-append (take at b ++ take n s) (drop (at + n) b) 0 (at + k) (omega (arith, length-paste-head b at s n (omega arith) has))
+    ∙ sym (ap (λ (i : ℕ). getD (take at b ++ take n s) (i + k) 0) long)
+    ∙ getD-append-add (take at b) (take n s) k 0 ∙ getD-take n s k 0 l
+
+pub little-back : (b : List ℕ) (at n : ℕ) → at + 8 ≤ length b → n < 2 ^ 64 → littleAt (paste b at (eightOf n) 8) at ≡ n
+unfolding littleAt joined bytesFrom
+little-back b at n room small =
+    let back : (k : ℕ) → k < 8 → getD (paste b at (eightOf n) 8) (at + k) 0 ≡ getD (eightOf n) k 0 = λ k l. pasted-get b at (eightOf n) 8 k room (omega (arith, length-bytes n 0 8)) l in
+    let first : getD (paste b at (eightOf n) 8) at 0 ≡ getD (eightOf n) 0 0 = ap (λ (i : ℕ). getD (paste b at (eightOf n) 8) i 0) (omega arith) ∙ back 0 (lit< tt) in
+    let whole : n / 2 ^ 0 % 2 ^ 64 ≡ n = rw (div-one n) (mod-eq-of-lt small) in
+    omega (arith, first, back 1 (lit< tt), back 2 (lit< tt), back 3 (lit< tt), back 4 (lit< tt), back 5 (lit< tt), back 6 (lit< tt), back 7 (lit< tt), joined-is n 0 8, whole)

@@ -1,0 +1,3 @@
+-- Samples as bytes, and their places in an area. Definitions only.
+pub mod Samples
+pub mod Frames

@@ -1,0 +1,41 @@
+// A sample as eight bytes, the lowest first. Only our own crates call these functions, and each has a
+// `requires`.
+ghost use mathlib.Core.Path.{_≡_};
+ghost use Prim.Native.Nat.{_+_, _*_, _<_, _≤_, _^_};
+ghost use lib.Ieee.{binary64, toBits};
+ghost use lib.ListN.{length};
+ghost use lib.Seq.{paste};
+ghost use Rattle.samples.specs.Samples.{sampleAt, eightOf};
+
+fn wide(byte: u8) -> u64
+    ensures { λ r. ⌜ (r ≡ byte) × (r < 256) ⌝ }
+{
+    byte as u64
+}
+
+// The sample whose bytes start at `at`.
+pub fn sample_at(bytes: &[u8], at: usize) -> f64
+    requires { ⌜ at + 8 ≤ length (now bytes) ⌝ }
+    ensures { λ r. ⌜ r ≡ sampleAt (now (bytes .entry)) at ⌝ }
+{
+    let n7 = wide(bytes[at + 7]);
+    let n6 = wide(bytes[at + 6]) + 256 * n7;
+    let n5 = wide(bytes[at + 5]) + 256 * n6;
+    let n4 = wide(bytes[at + 4]) + 256 * n5;
+    let n3 = wide(bytes[at + 3]) + 256 * n4;
+    let n2 = wide(bytes[at + 2]) + 256 * n3;
+    let n1 = wide(bytes[at + 1]) + 256 * n2;
+    let n0 = wide(bytes[at]) + 256 * n1;
+    text::of_bits(n0)
+}
+
+// Puts the bytes of x at the place `at` and those after it.
+pub fn put_sample(bytes: &mut [u8], at: usize, x: f64)
+    requires { ⌜ at + 8 ≤ length (now bytes) ⌝ }
+    ensures { λ _. ⌜ now (bytes .exit) ≡ paste (now (bytes .entry)) at (eightOf (toBits binary64 x)) 8 ⌝ }
+{
+    let n = text::bits_of(x);
+    for k in 0..8 {
+        bytes[at + k] = ((n >> (8 * k)) % 256) as u8;
+    }
+}
