@@ -1,16 +1,11 @@
--- Which blocks are read and written, how far a piece goes, and which samples it reaches. Definitions only.
-use mathlib.Core.Bool.{Bool, true, false, _&&_}
+-- How far a piece goes, and which samples it reaches. Definitions only.
+use mathlib.Core.Bool.{Bool, false}
 use mathlib.Core.List.{List}
 use mathlib.Core.Path.{_≡_}
-use Prim.Native.Nat.{ℕ, _+_, _*_, _/_, _<_, _≤_, min}
-use lib.Dec.{ltb, leb}
+use Prim.Native.Nat.{ℕ, _+_, _/_, _<_, _≤_, min}
 use lib.Ieee.{Float}
 use lib.ListN.{getD}
 use Rattle.samples.specs.Frames.{placeOf}
-
--- 1 to 16 channels and up to 65,536 frames, in an area that has room for them
-unfoldable pub taken : ℕ → ℕ → ℕ → Bool
-taken channels share room = ltb 0 channels && (leb channels 16 && (leb share 65536 && leb (channels * share) room))
 
 -- the samples up to the end of a piece: behind those that are done as many as the buffer's bytes hold, and none past the block
 abbrev pub upTo : ℕ → ℕ → ℕ → ℕ

@@ -2,10 +2,8 @@
 // read or written no contract can say; which blocks are taken, how many samples a piece has, which samples
 // of an area it reaches and what it hands on is proved.
 mod reading;
-mod sizes;
 mod writing;
 
 pub use reading::Reading;
 pub use reading::read_block;
-pub use sizes::takes;
 pub use writing::write_block;

@@ -1,14 +1,15 @@
 // A block's samples, read in pieces.
-use crate::sizes::takes;
 use samples::least;
 use samples::samples_in;
 use samples::spread;
+use samples::takes;
 ghost use mathlib.Core.Bool.{true, false, _&&_, not};
 ghost use mathlib.Core.Path.{_≡_};
 ghost use Prim.Native.Nat.{_*_, _<_, _≤_};
 ghost use lib.Dec.{ltb};
 ghost use lib.ListN.{length};
-ghost use Rattle.blocks.specs.Blocks.{taken, PieceRead, BlockRead};
+ghost use Rattle.samples.specs.Counts.{taken};
+ghost use Rattle.blocks.specs.Blocks.{PieceRead, BlockRead};
 
 // So many bytes have been read. `open` says that there may be more, `failed` that a read failed.
 struct Filled {

@@ -1,16 +1,17 @@
 // A block's samples, written in pieces.
-use crate::sizes::takes;
 use printer::bytes_of;
 use samples::gather;
 use samples::least;
 use samples::samples_in;
+use samples::takes;
 ghost use mathlib.Core.Bool.{true, false, _&&_};
 ghost use mathlib.Core.Path.{_≡_};
 ghost use Prim.Native.Nat.{_*_, _-_, _<_, _≤_};
 ghost use lib.Dec.{ltb};
 ghost use lib.ListN.{length};
 ghost use Rattle.samples.specs.Frames.{gatheredTo};
-ghost use Rattle.blocks.specs.Blocks.{taken, upTo};
+ghost use Rattle.samples.specs.Counts.{taken};
+ghost use Rattle.blocks.specs.Blocks.{upTo};
 
 // What was written of a block: samples, and whether all went well.
 struct Writing {

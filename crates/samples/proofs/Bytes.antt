@@ -1,8 +1,8 @@
 -- A pattern and its eight bytes: the loop that puts them, and the pattern read back. Assumes nothing.
 use mathlib.Core.List.{List, [], _∷_, _++_}
 use mathlib.Core.Path.{_≡_, refl, sym, ap, _∙_}
-use Prim.Native.Nat.{ℕ, zero, suc, _+_, _*_, _/_, _%_, _^_, _<_, _≤_}
-use native.Mathlib.Nat.{mod-one, mod-eq-of-lt, div-one}
+use Prim.Native.Nat.{ℕ, zero, suc, _+_, _-_, _*_, _/_, _%_, _^_, _<_, _≤_}
+use native.Mathlib.Nat.{mod-one, mod-eq-of-lt, div-one, lt-of-lt-of-le, pow-le-pow-right}
 use native.Mathlib.Numerals.{add-one}
 use native.Mathlib.Omega.{arith}
 use lib.Arith.{mod-mul}
@@ -10,7 +10,7 @@ use lib.Dec.{lit<}
 use lib.Pow.{pow-pos, pow-add, shr-shr}
 use lib.ListN.{length, getD, set, take, drop, length-set, List·getD-append}
 use lib.Seq.{paste, paste-zero, paste-suc, length-paste-head, length-take-le, getD-append-add, getD-take}
-use Rattle.samples.specs.Samples.{littleAt, bytesFrom, eightOf}
+use Rattle.samples.specs.Samples.{littleFrom, littleAt, bytesFrom, eightOf}
 
 pub length-bytes : (n j k : ℕ) → length (bytesFrom n j k) ≡ k
 unfolding bytesFrom
@@ -26,6 +26,34 @@ byte-at n j (suc k) zero l =
 byte-at n j (suc k) (suc i) l =
     let e : j + 1 + i ≡ j + suc i = omega arith in
     byte-at n (j + 1) k i (omega arith) ∙ ap (λ (i : ℕ). n / 2 ^ (8 * i) % 256) e
+
+-- ---- n is the number of the last k of the eight bytes at a place
+pub record Joins (bs : List ℕ) (at n k : ℕ) : Type 0 where
+  pub small : n < 256 ^ k
+  pub is : (p : ℕ) → p + k ≡ at + 8 → n ≡ littleFrom bs p k
+
+pub joins-none : (bs : List ℕ) (at : ℕ) → Joins bs at 0 0
+unfolding littleFrom
+joins-none bs at = record { small = lit< tt; is = λ p e. refl }
+
+pub joins-next : (bs : List ℕ) (at n k b : ℕ) → Joins bs at n k → k < 8 → b ≡ getD bs (at + 7 - k) 0 → b < 256 → Joins bs at (b + 256 * n) (k + 1)
+unfolding littleFrom
+joins-next bs at n k b j l e s =
+    let wide : 256 ^ (k + 1) ≡ 256 ^ k * 256 = pow-add 256 k 1 in
+    record {
+      small = omega (arith, j .small);
+      is =
+          λ p q.
+          let here : at + 7 - k ≡ p = omega arith in
+          rw (e, here, j .is (p + 1) (omega arith), add-one k);
+    }
+
+-- seven bytes leave room for one more
+pub joins-fits : (n k : ℕ) → n < 256 ^ k → k < 8 → n < 72057594037927936
+joins-fits n k h l = lt-of-lt-of-le h (pow-le-pow-right {n = 256} (lit< tt) {i = k} {j = 7} (omega arith))
+
+pub joins-done : (bs : List ℕ) (at n k : ℕ) → Joins bs at n k → k ≡ 8 → n ≡ littleAt bs at
+joins-done bs at n k j e = j .is at (omega arith) ∙ ap (littleFrom bs at) e
 
 -- ---- x is d with the first k bytes of n from the place at on
 pub record Put (d : List ℕ) (at n : ℕ) (x : List ℕ) (k : ℕ) : Type 0 where
@@ -72,10 +100,19 @@ pasted-get b at s n k room has l =
     ∙ sym (ap (λ (i : ℕ). getD (take at b ++ take n s) (i + k) 0) long)
     ∙ getD-append-add (take at b) (take n s) k 0 ∙ getD-take n s k 0 l
 
+-- k bytes at a place are the number of a text that stands there
+little-joined : (x : List ℕ) (at : ℕ) (s : List ℕ) → ((k : ℕ) → k < length s → getD x (at + k) 0 ≡ getD s k 0) → littleFrom x at (length s) ≡ joined s
+unfolding littleFrom joined
+little-joined x at [] f = refl
+little-joined x at (b ∷ s) f =
+    let first : getD x at 0 ≡ b = ap (λ (i : ℕ). getD x i 0) (omega arith) ∙ f 0 (omega arith) in
+    let rest = little-joined x (at + 1) s (λ k l. ap (λ (i : ℕ). getD x i 0) (omega arith) ∙ f (suc k) (omega arith)) in
+    omega arith
+
 pub little-back : (b : List ℕ) (at n : ℕ) → at + 8 ≤ length b → n < 2 ^ 64 → littleAt (paste b at (eightOf n) 8) at ≡ n
-unfolding littleAt joined bytesFrom
 little-back b at n room small =
-    let back : (k : ℕ) → k < 8 → getD (paste b at (eightOf n) 8) (at + k) 0 ≡ getD (eightOf n) k 0 = λ k l. pasted-get b at (eightOf n) 8 k room (omega (arith, length-bytes n 0 8)) l in
-    let first : getD (paste b at (eightOf n) 8) at 0 ≡ getD (eightOf n) 0 0 = ap (λ (i : ℕ). getD (paste b at (eightOf n) 8) i 0) (omega arith) ∙ back 0 (lit< tt) in
+    let long = length-bytes n 0 8 in
     let whole : n / 2 ^ 0 % 2 ^ 64 ≡ n = rw (div-one n) (mod-eq-of-lt small) in
-    omega (arith, first, back 1 (lit< tt), back 2 (lit< tt), back 3 (lit< tt), back 4 (lit< tt), back 5 (lit< tt), back 6 (lit< tt), back 7 (lit< tt), joined-is n 0 8, whole)
+    ap (λ (k : ℕ). littleFrom (paste b at (eightOf n) 8) at k) (sym long)
+    ∙ little-joined (paste b at (eightOf n) 8) at (eightOf n) (λ k l. pasted-get b at (eightOf n) 8 k room (omega arith) (omega arith))
+    ∙ joined-is n 0 8 ∙ whole

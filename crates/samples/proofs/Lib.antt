@@ -2,3 +2,4 @@
 pub mod Bytes
 pub mod Places
 pub mod Products
+pub mod Taken

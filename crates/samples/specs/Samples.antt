@@ -4,11 +4,14 @@ use Prim.Native.Nat.{ℕ, zero, suc, _+_, _*_, _/_, _%_, _^_}
 use lib.Ieee.{Float, binary64, ofBits}
 use lib.ListN.{getD}
 
--- the number of the eight bytes at the place `at` and after it
-unfoldable pub littleAt : List ℕ → ℕ → ℕ
-littleAt bs at =
-    getD bs at 0 + 256 * (getD bs (at + 1) 0 + 256 * (getD bs (at + 2) 0 + 256 * (getD bs (at + 3) 0
-    + 256 * (getD bs (at + 4) 0 + 256 * (getD bs (at + 5) 0 + 256 * (getD bs (at + 6) 0 + 256 * getD bs (at + 7) 0))))))
+-- the number of k bytes from the place `at` on
+unfoldable pub littleFrom : List ℕ → ℕ → ℕ → ℕ
+littleFrom bs at zero = 0
+littleFrom bs at (suc k) = getD bs at 0 + 256 * littleFrom bs (at + 1) k
+
+-- the number of the eight bytes there
+abbrev pub littleAt : List ℕ → ℕ → ℕ
+littleAt bs at = littleFrom bs at 8
 
 -- the sample there
 abbrev pub sampleAt : List ℕ → ℕ → Float

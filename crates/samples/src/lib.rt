@@ -7,6 +7,7 @@ mod tones;
 
 pub use counts::least;
 pub use counts::samples_in;
+pub use counts::takes;
 pub use frames::gather;
 pub use frames::spread;
 pub use little::put_sample;

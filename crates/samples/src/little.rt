@@ -18,15 +18,11 @@ pub fn sample_at(bytes: &[u8], at: usize) -> f64
     requires { ⌜ at + 8 ≤ length (now bytes) ⌝ }
     ensures { λ r. ⌜ r ≡ sampleAt (now (bytes .entry)) at ⌝ }
 {
-    let n7 = wide(bytes[at + 7]);
-    let n6 = wide(bytes[at + 6]) + 256 * n7;
-    let n5 = wide(bytes[at + 5]) + 256 * n6;
-    let n4 = wide(bytes[at + 4]) + 256 * n5;
-    let n3 = wide(bytes[at + 3]) + 256 * n4;
-    let n2 = wide(bytes[at + 2]) + 256 * n3;
-    let n1 = wide(bytes[at + 1]) + 256 * n2;
-    let n0 = wide(bytes[at]) + 256 * n1;
-    text::of_bits(n0)
+    let mut n: u64 = 0;
+    for k in 0..8 {
+        n = wide(bytes[at + 7 - k]) + 256 * n;
+    }
+    text::of_bits(n)
 }
 
 // Puts the bytes of x at the place `at` and those after it.

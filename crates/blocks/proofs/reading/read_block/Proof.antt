@@ -2,7 +2,7 @@
 use mathlib.Core.Path.{refl}
 use native.Mathlib.Omega.{arith}
 use Rattle.blocks.proofs.Pieces.{block-as}
-use Rattle.blocks.proofs.Taken.{fits-if, refused-if, taken-if}
+use Rattle.samples.proofs.Taken.{fits-if, refused-if, taken-if}
 use borrow.Author.Needs.{needs}
 use Rattle.blocks.proofs.reading.read_block.Statement.{statement}
 use Rattle.blocks.proofs.reading.read_block.Tie as tie

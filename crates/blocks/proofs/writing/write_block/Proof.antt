@@ -1,6 +1,6 @@
 -- `blocks::writing::write_block` meets its contract. Assumes nothing.
 use native.Mathlib.Omega.{arith}
-use Rattle.blocks.proofs.Taken.{fits-if, taken-if}
+use Rattle.samples.proofs.Taken.{fits-if, taken-if}
 use borrow.Author.Needs.{needs}
 use borrow.Author.Needs.{needs}
 use Rattle.blocks.proofs.writing.write_block.Statement.{statement}

@@ -1,9 +1,9 @@
--- `blocks::sizes::takes` meets its contract. Assumes nothing.
+-- `samples::counts::takes` meets its contract. Assumes nothing.
 use native.Mathlib.Omega.{arith}
-use Rattle.blocks.proofs.Taken.{taken-none, taken-channels, taken-frames, taken-room}
+use Rattle.samples.proofs.Taken.{taken-none, taken-channels, taken-frames, taken-room}
 use borrow.Author.Needs.{needs}
-use Rattle.blocks.proofs.sizes.takes.Statement.{statement}
-use Rattle.blocks.proofs.sizes.takes.Tie as tie
+use Rattle.samples.proofs.counts.takes.Statement.{statement}
+use Rattle.samples.proofs.counts.takes.Tie as tie
 
 returns : tie.Need-returns
 returns c = taken-none _ _ _ (c .if1 .taken)

@@ -5,7 +5,7 @@ use Prim.Native.Nat.{ℕ, _*_, _<_, _≤_}
 use native.Mathlib.Omega.{arith}
 use borrow.Author.Tests.{lt-ltb, le-ltb, le-leb, lt-leb, ltb-true, leb-true}
 use lib.Dec.{ltb, leb}
-use Rattle.blocks.specs.Blocks.{taken}
+use Rattle.samples.specs.Counts.{taken}
 
 both : (a b : Bool) → (a && b) ≡ true → (a ≡ true) × (b ≡ true)
 both true b e = (refl, e)
