@@ -1,16 +1,19 @@
 -- The parts of a plan joined: the increment, the path, the record that a block or a reset leaves. Assumes nothing.
-use mathlib.Core.Bool.{Bool}
+use mathlib.Core.Bool.{Bool, true, false}
+use mathlib.Core.List.{[]}
 use mathlib.Core.Path.{_≡_}
 use Prim.Native.Nat.{ℕ}
 use borrow.Author.Tests.{eq-eqb, ne-eqb}
 use lib.Ieee.{Float}
 use Rattle.exact.specs.Doubles.{_-f_, _/f_, count, zeroF}
+use Rattle.error.specs.Refusals.{Said, refused}
+use Rattle.error.proofs.Ladder.{pass, stop}
 use Rattle.sizes.specs.Sizes.{startOf}
 use Rattle.state.specs.declared.State.{State}
-use Rattle.state.specs.Record.{pointsIn, stepNow, stepThen, changed}
+use Rattle.state.specs.Record.{pointsIn, stepNow, stepThen, isState, changed, updateLengths}
 use Rattle.path.specs.Path.{pathAt}
 use Rattle.path.specs.Places.{shiftOf, lastOf, allReach}
-use Rattle.plan.specs.Plan.{incrementOf, reachHolds, indexAfter, afterBlock, restored}
+use Rattle.plan.specs.Plan.{shapeHolds, incrementOf, reachHolds, indexAfter, afterBlock, planned, restored}
 
 -- ---- the ramp's increment
 pub increment-none : (s : State) → s .output ≡ 0 → zeroF ≡ incrementOf s
@@ -28,6 +31,24 @@ look-is s t d i b e f g h = (rw (g, e, f), rw (h, e, f))
 pub after-is : (s : State) (i n : Float) → i ≡ indexAfter s → n ≡ count (s .input)
     → changed s (s .chunk) (s .input) (s .output) (s .input) (i -f n) (s .target) (s .target) ≡ afterBlock s
 after-is s i n h e = rw (h, e)
+
+-- ---- a block's ladder, rung by rung
+module _ (s : State) (frames mask input output work : ℕ) where
+  pub record-refused : isState s ≡ false → refused 10 [] ≡ planned s frames mask input output work
+  unfolding planned
+  record-refused h = stop _ _ _ _ h
+
+  pub shape-refused : isState s ≡ true → shapeHolds s frames mask input output work ≡ false → refused 8 [] ≡ planned s frames mask input output work
+  unfolding planned
+  shape-refused a h = pass _ _ _ _ _ a (stop _ _ _ _ h)
+
+  pub reach-refused : isState s ≡ true → shapeHolds s frames mask input output work ≡ true → reachHolds s ≡ false → refused 9 [] ≡ planned s frames mask input output work
+  unfolding planned
+  reach-refused a b h = pass _ _ _ _ _ a (pass _ _ _ _ _ b (stop _ _ _ _ h))
+
+  pub block-made : (x : Said State) → isState s ≡ true → shapeHolds s frames mask input output work ≡ true → reachHolds s ≡ true → x ≡ updateLengths (afterBlock s) → x ≡ planned s frames mask input output work
+  unfolding planned
+  block-made x a b c h = pass _ _ _ _ _ a (pass _ _ _ _ _ b (pass _ _ _ _ _ c h))
 
 -- ---- reset
 pub restored-is : (s : State) (l : ℕ) (i : Float) → l ≡ pointsIn s → i ≡ startOf l

@@ -19,20 +19,23 @@ use Rattle.process.specs.declared.Ran.the-variants as ran
 use Rattle.plan.specs.Plan.{readOf, strideOf, shapeHolds, incrementOf, planned, resetting}
 use Rattle.process.specs.Block.{workAfter, outputAfter, sizesOf, blockEnd, blockOf, blockLeft, resetEnd, resetOf, resetLeft}
 
--- ---- the second pass
+-- ---- the second pass: the working area, then the output on it
 module _ (s : State) (frames mask : ℕ) (input : List Float) (at : ℕ) (work : List Float) where
-  pub work-is : (stride l read : ℕ) (moved loaded : List Float) → stride ≡ strideOf s → l ≡ pointsIn s → read ≡ readOf s frames
+  work-is : (stride l read : ℕ) (moved loaded : List Float) → stride ≡ strideOf s → l ≡ pointsIn s → read ≡ readOf s frames
       → moved ≡ movedAll mask (s .fill) (2 * l) stride (s .channels) work
       → loaded ≡ loadedAll mask (2 * l) input (length input / s .channels) at read (s .input) stride (s .channels) moved → loaded ≡ workAfter s frames mask input at work
   unfolding workAfter
   work-is stride l read moved loaded a b c d e = rw (e, d, c, b, a)
 
-pub output-is : (s : State) (mask : ℕ) (work after : List Float) (to : ℕ) (output out : List Float) (stride : ℕ) (t d : Float)
-    → stride ≡ strideOf s → t ≡ stepNow s → d ≡ incrementOf s → work ≡ after
-    → out ≡ ranAll (s .degree) (s .input) mask work stride t d (s .index) (s .output) to (length output / s .channels) (s .channels) output
-    → out ≡ outputAfter s mask after to output
-unfolding outputAfter
-output-is s mask work after to output out stride t d a b c w e = rw (e, a, b, c, w)
+  pub written : (to : ℕ) (output : List Float) (stride l read : ℕ) (moved loaded out : List Float) (t d : Float) → stride ≡ strideOf s → l ≡ pointsIn s → read ≡ readOf s frames
+      → moved ≡ movedAll mask (s .fill) (2 * l) stride (s .channels) work
+      → loaded ≡ loadedAll mask (2 * l) input (length input / s .channels) at read (s .input) stride (s .channels) moved → t ≡ stepNow s → d ≡ incrementOf s
+      → out ≡ ranAll (s .degree) (s .input) mask loaded stride t d (s .index) (s .output) to (length output / s .channels) (s .channels) output
+      → (loaded ≡ workAfter s frames mask input at work) × (out ≡ outputAfter s mask (workAfter s frames mask input at work) to output)
+  unfolding outputAfter
+  written to output stride l read moved loaded out t d a b c e f g h k =
+      let w = work-is stride l read moved loaded a b c e f in
+      (w, rw (k, a, g, h, w))
 
 -- ---- the block's two ways out
 module _ (s : State) (frames mask : ℕ) (input output work : List Float) (m : Made) (e : saidMade m ≡ planned s frames mask (length input) (length output) (length work)) where

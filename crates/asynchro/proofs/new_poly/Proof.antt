@@ -3,7 +3,7 @@ use mathlib.Core.Path.{ap, _∙_}
 use borrow.Author.Tests.{lt-leb, le-leb}
 use borrow.Author.Needs.{needs}
 use Rattle.error.proofs.Ladder.{pass, stop, failed, passed}
-use Rattle.asynchro.specs.Calls.{construct, firstLengths}
+use Rattle.asynchro.specs.Calls.{freshState, construct, firstLengths}
 use Rattle.asynchro.proofs.new_poly.Statement.{statement}
 use Rattle.asynchro.proofs.new_poly.Tie as tie
 
@@ -77,12 +77,13 @@ returns-6 c =
     let k = t .before .before in
     let o = k .before in
     let z = o .before .before in
+    let a = z .before .before .args in
     pass _ _ _ _ _ (passed (z .before .above-zero .ensures) (z .if1 .left)) (
     pass _ _ _ _ _ (passed (o .before .at-least-one .ensures) (o .if2 .left)) (
     pass _ _ _ _ _ (le-leb _ _ (k .if3 .left)) (
     pass _ _ _ _ _ (passed (t .before .is-ratio .ensures) (t .if4 .left)) (
     pass _ _ _ _ _ (passed (h .before .is-channels .ensures) (h .if5 .left)) (
-    c .first-lengths .ensures ∙ ap firstLengths (c .before .fresh-state .ensures))))))
+    c .first-lengths .ensures ∙ ap firstLengths {y = freshState (a .r) (a .m) (a .degree) (a .chunk) (a .channels) (a .fixed)} (c .before .fresh-state .ensures))))))
 
 pub new-poly-spec : {M : Type 1} → statement M
 new-poly-spec =

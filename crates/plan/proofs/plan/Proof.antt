@@ -1,9 +1,9 @@
 -- `plan::plan` meets its contract: the refusals in their order, then the record. Assumes nothing.
 use mathlib.Core.Path.{ap, _∙_}
 use borrow.Author.Needs.{needs}
-use Rattle.error.proofs.Ladder.{pass, stop, failed, passed}
+use Rattle.error.proofs.Ladder.{failed, passed}
 use Rattle.state.specs.Record.{updateLengths}
-use Rattle.plan.specs.Plan.{planned}
+use Rattle.plan.proofs.Planned.{record-refused, shape-refused, reach-refused, block-made}
 use Rattle.plan.proofs.plan.Statement.{statement}
 use Rattle.plan.proofs.plan.Tie as tie
 
@@ -11,28 +11,23 @@ is-state-requires : tie.Need-is-state-requires
 is-state-requires c κs = search needs
 
 returns : tie.Need-returns
-unfolding planned
-returns c = stop _ _ _ _ (failed (c .before .is-state .ensures) (c .if1 .taken))
+returns c = record-refused _ _ _ _ _ _ (failed (c .before .is-state .ensures) (c .if1 .taken))
 
 validate-buffers-requires : tie.Need-validate-buffers-requires
 validate-buffers-requires c κs = passed (c .before .is-state .ensures) (c .if1 .left)
 
 returns-2 : tie.Need-returns-2
-unfolding planned
 returns-2 c =
-    pass _ _ _ _ _ (passed (c .before .before .before .is-state .ensures) (c .before .before .if1 .left)) (
-    stop _ _ _ _ (failed (c .before .validate-buffers .ensures) (c .if2 .taken)))
+    shape-refused _ _ _ _ _ _ (passed (c .before .before .before .is-state .ensures) (c .before .before .if1 .left)) (failed (c .before .validate-buffers .ensures) (c .if2 .taken))
 
 look-requires : tie.Need-look-requires
 look-requires c κs = passed (c .before .before .before .is-state .ensures) (c .before .before .if1 .left)
 
 returns-3 : tie.Need-returns-3
-unfolding planned
 returns-3 c =
     let t = c .before .before .before in
-    pass _ _ _ _ _ (passed (t .before .before .before .is-state .ensures) (t .before .before .if1 .left)) (
-    pass _ _ _ _ _ (passed (t .before .validate-buffers .ensures) (t .if2 .left)) (
-    stop _ _ _ _ (failed (c .before .before .look .ensures .0) (c .if3 .taken))))
+    reach-refused _ _ _ _ _ _ (passed (t .before .before .before .is-state .ensures) (t .before .before .if1 .left))
+    (passed (t .before .validate-buffers .ensures) (t .if2 .left)) (failed (c .before .before .look .ensures .0) (c .if3 .taken))
 
 after-block-requires : tie.Need-after-block-requires
 after-block-requires c κs = search needs
@@ -41,14 +36,12 @@ update-lengths-requires : tie.Need-update-lengths-requires
 update-lengths-requires c κs = search needs
 
 returns-4 : tie.Need-returns-4
-unfolding planned
 returns-4 c =
     let l = c .before .before in
     let t = l .before .before .before in
-    pass _ _ _ _ _ (passed (t .before .before .before .is-state .ensures) (t .before .before .if1 .left)) (
-    pass _ _ _ _ _ (passed (t .before .validate-buffers .ensures) (t .if2 .left)) (
-    pass _ _ _ _ _ (passed (l .before .before .look .ensures .0) (l .if3 .left)) (
-    c .update-lengths .ensures ∙ ap updateLengths (c .before .after-block .ensures))))
+    block-made _ _ _ _ _ _ _ (passed (t .before .before .before .is-state .ensures) (t .before .before .if1 .left))
+    (passed (t .before .validate-buffers .ensures) (t .if2 .left)) (passed (l .before .before .look .ensures .0) (l .if3 .left))
+    (c .update-lengths .ensures ∙ ap updateLengths (c .before .after-block .ensures))
 
 pub plan-spec : {M : Type 1} → statement M
 plan-spec =

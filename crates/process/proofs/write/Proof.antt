@@ -4,7 +4,7 @@ use borrow.Author.Needs.{needs}
 use denote.Ref.{now}
 use Rattle.state.proofs.Valid.{valid}
 use Rattle.plan.proofs.Shape.{shaped, move-asks, load-asks, run-asks}
-use Rattle.process.proofs.Written.{work-is, output-is}
+use Rattle.process.proofs.Written.{written}
 use Rattle.process.proofs.write.Statement.{statement}
 use Rattle.process.proofs.write.Tie as tie
 
@@ -70,9 +70,8 @@ returns c =
     let f = m .before .before in
     let p = f .before in
     let t = p .before .before .before .before .before in
-    let w = work-is (t .args .s) _ _ (now (t .args .input)) _ (now (t .args .work)) _ _ _ _ _ (p .before .stride-of .ensures) (p .points-in .ensures) (f .frames-to-read .ensures)
-    (m .move-all .ensures) (l .load-all .ensures) in
-    (w, output-is (t .args .s) _ _ _ _ (now (t .args .output)) _ _ _ _ (p .before .stride-of .ensures) (d .before .step-now .ensures) (d .t-ratio-increment .ensures) w (r .run-all .ensures))
+    written (t .args .s) _ _ (now (t .args .input)) _ (now (t .args .work)) _ (now (t .args .output)) _ _ _ _ _ _ _ _ (p .before .stride-of .ensures) (p .points-in .ensures) (f .frames-to-read .ensures)
+    (m .move-all .ensures) (l .load-all .ensures) (d .before .step-now .ensures) (d .t-ratio-increment .ensures) (r .run-all .ensures)
 
 pub write-spec : {M : Type 1} → statement M
 write-spec =
