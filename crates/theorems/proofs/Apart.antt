@@ -15,7 +15,7 @@ use Rattle.frames.proofs.Apart.{run-apart}
 use Rattle.plan.specs.Plan.{readOf, strideOf, incrementOf, planned}
 use Rattle.plan.proofs.Shape.{Shaped}
 use Rattle.process.specs.Block.{workAfter, outputAfter, blockEnd, blockOf}
-use Rattle.theorems.proofs.Block.{shape-of, work-part}
+use Rattle.theorems.proofs.Areas.{shape-of, work-part}
 
 -- one record, frames given and mask; two blocks whose areas have the same lengths
 module _ (s : State) (frames mask : ℕ) (input input′ output output′ work work′ : List Float)

@@ -25,7 +25,7 @@ use Rattle.frames.specs.Run.{valueAt, framesTo}
 use Rattle.path.proofs.Front.{reachFrom, reach-from}
 use Rattle.plan.specs.Plan.{shapeHolds, incrementOf, reachHolds, afterBlock, planned}
 use Rattle.process.specs.Block.{workAfter, outputAfter, blockEnd}
-use Rattle.theorems.specs.Bench.{Case, case-1, case-2, case-3, case-4, case-5, case-6, case-7, case-8, case-9, case-10, case-11, case-12, bench, built, first, silence, zeros, firstBlock, nextBlock, atRatio1, blockSaid, sixteenthF, size, double, refusal}
+use Rattle.theorems.specs.Bench.{Case, case-1, case-2, case-3, case-4, case-5, case-6, case-7, case-8, case-9, case-10, case-11, case-12, bench, built, septicMade, silence, zeros, firstBlock, nextBlock, atRatio1, blockSaid, sixteenthF, size, double, refusal}
 use Rattle.theorems.proofs.Block.{work-stays-long}
 
 abbrev pub Holds : Case → Type 0
@@ -40,7 +40,7 @@ Every (c ∷ cs) = Holds c × Every cs
 begun : State
 begun = record { channels = 1; chunk = 1024; chunk0 = 1024; input = 1024; output = 63; fill = 1024; index = neg (count 4); original = sixteenthF; current = sixteenthF; target = sixteenthF; m = count 16; degree = Septic; fixed = Input }
 
-begun-is : first ≡ given begun
+begun-is : septicMade ≡ given begun
 unfolding begun unless madeWhole sizeOf neededInput neededOutput maxInput maxOutput updateLengths firstLengths construct add sub mul div neg ofInt ofBits lt le eq
 begun-is = refl
 

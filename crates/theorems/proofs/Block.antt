@@ -1,220 +1,67 @@
--- Document 01, "Block run": what a block leaves of the two areas that it may change, channel by channel. Assumes nothing.
-use mathlib.Core.Bool.{Bool, true, false}
-use mathlib.Core.List.{List, _++_}
-use mathlib.Core.Path.{_≡_, refl, ap, _∙_}
-use Prim.Native.Nat.{ℕ, suc, _+_, _-_, _*_, _/_, _≤_, _<_}
-use native.Mathlib.Nat.{le-of-eq, zero-add}
-use native.Mathlib.Omega.{arith}
+-- Document 01, "Block run": what a block leaves of the two areas that it may change, channel by channel. Laws behind it: Areas.antt. Assumes nothing.
+use mathlib.Core.Bool.{true, false}
+use mathlib.Core.List.{List}
+use mathlib.Core.Path.{_≡_, refl}
+use Prim.Native.Nat.{ℕ, _/_, _<_}
 use lib.Ieee.{Float}
-use lib.ListN.{length, getD, take, drop, replicate}
-use lib.Seq.{drop-drop}
-use Rattle.exact.specs.Doubles.{_-f_, zeroF}
-use Rattle.error.specs.Refusals.{Said, given, refused}
-use Rattle.error.proofs.Ladder.{accepted}
-use Rattle.asynchro_fast.proofs.Laws.{before-points}
+use lib.ListN.{length, getD, drop}
+use Rattle.error.specs.Refusals.{given}
 use Rattle.state.specs.declared.State.{State}
-use Rattle.state.specs.Record.{pointsIn, stepNow}
 use Rattle.channel.specs.Mask.{isOn}
-use Rattle.channel.specs.Moves.{moved, loaded}
-use Rattle.channel.proofs.Moves.{moved-long, moved-front, moved-rest, loaded-parts}
-use Rattle.channel.proofs.Switched.{where-on, where-off}
 use Rattle.area.specs.Parts.{partOf}
-use Rattle.area.specs.Moves.{movedIn, loadedIn, movedAll}
-use Rattle.area.proofs.Parts.{Keeps, part-long, length-each, part-each}
-use Rattle.area.proofs.Moves.{movedIn-keeps, loadedIn-keeps}
-use Rattle.path.specs.Places.{placeOf, shiftOf, lastOf}
-use Rattle.path.proofs.Path.{reach-each}
-use Rattle.path.proofs.Bounds.{path-fits}
-use Rattle.frames.specs.Run.{valueAt}
-use Rattle.frames.proofs.Run.{ran-long}
-use Rattle.frames.proofs.Apart.{run-off, run-frame, run-beyond}
-use Rattle.plan.specs.Plan.{readOf, strideOf, incrementOf, reachHolds, planned}
-use Rattle.plan.proofs.Shape.{Shaped, shaped}
+use Rattle.plan.specs.Plan.{strideOf}
 use Rattle.process.specs.declared.Sizes.{Sizes}
-use Rattle.process.specs.Block.{Block, workAfter, outputAfter, blockEnd, blockOf}
-use Rattle.position.proofs.Accepted.{passed}
-use Rattle.theorems.specs.Neighbours.{indexAt, Frame}
-use Rattle.theorems.proofs.Places.{Found, found}
-
--- an accepted block's areas have their shape
-pub shape-of : (s : State) (frames mask input output work : ℕ) (t : State) → planned s frames mask input output work ≡ given t → Shaped s frames input output work
-unfolding planned
-shape-of s frames mask input output work t e =
-    let p = accepted _ _ _ _ _ e in
-    shaped s frames mask input output work (p .0) (accepted _ _ _ _ _ (p .1) .0)
-
--- ---- the working area after moving and reading
-module _ (s : State) (frames mask : ℕ) (input work : List Float) (out : ℕ) (h : Shaped s frames (length input) out (length work)) where
-  room : s .channels * strideOf s ≤ length work
-  room = le-of-eq (h .long)
-
-  abbrev moves : ℕ → List Float → List Float
-  moves = movedIn mask (s .fill) (2 * pointsIn s)
-
-  abbrev reads : ℕ → List Float → List Float
-  reads = loadedIn mask (2 * pointsIn s) input (length input / s .channels) 0 (readOf s frames) (s .input)
-
-  abbrev front : List Float
-  front = movedAll mask (s .fill) (2 * pointsIn s) (strideOf s) (s .channels) work
-
-  moves-keeps : Keeps moves (strideOf s) (s .channels)
-  moves-keeps = movedIn-keeps mask (s .fill) (2 * pointsIn s) (strideOf s) (s .channels) (h .fill-fits)
-
-  reads-keeps : Keeps reads (strideOf s) (s .channels)
-  reads-keeps =
-      loadedIn-keeps mask (2 * pointsIn s) input (length input / s .channels) 0 (readOf s frames) (s .input) (strideOf s) (s .channels) (le-of-eq (h .read-in .whole))
-      (rw zero-add (h .read-in .enough)) (h .read-most) (h .input-fits)
-
-  front-long : length front ≡ length work
-  front-long = length-each moves (strideOf s) (s .channels) work moves-keeps room
-
-  front-room : s .channels * strideOf s ≤ length front
-  front-room = rw front-long room
-
-  pub work-long : length (workAfter s frames mask input 0 work) ≡ length work
-  unfolding workAfter
-  work-long = length-each reads (strideOf s) (s .channels) front reads-keeps front-room ∙ front-long
-
-  -- a channel's part depends on nothing but that part and the channel's share of the input
-  pub work-part : (c : ℕ) → c < s .channels → partOf (strideOf s) c (workAfter s frames mask input 0 work)
-      ≡ loadedIn mask (2 * pointsIn s) input (length input / s .channels) 0 (readOf s frames) (s .input) c (movedIn mask (s .fill) (2 * pointsIn s) c (partOf (strideOf s) c work))
-  unfolding workAfter
-  work-part c l = part-each reads (strideOf s) (s .channels) front reads-keeps front-room c l ∙ ap (reads c) (part-each moves (strideOf s) (s .channels) work moves-keeps room c l)
+use Rattle.process.specs.Block.{Block, blockOf}
+use Rattle.theorems.specs.Block.{Frame, refreshed}
+use Rattle.theorems.proofs.Areas as areas
 
 module _ (s : State) (frames mask : ℕ) (input output work : List Float) where
   -- what the block leaves
   abbrev pub left : Block Sizes
   left = blockOf s frames mask input output work
 
-  -- the channel c's share of an output area, and its part of a working area
+  -- the channel c's share of the input and of an output area, and its part of a working area
+  abbrev pub inputIn : ℕ → List Float
+  inputIn c = partOf (length input / s .channels) c input
+
   abbrev pub outputIn : ℕ → List Float → List Float
   outputIn c o = partOf (length output / s .channels) c o
 
   abbrev pub workIn : ℕ → List Float → List Float
   workIn c w = partOf (strideOf s) c w
 
-  -- its share of the input
-  abbrev pub inputIn : ℕ → List Float
-  inputIn c = partOf (length input / s .channels) c input
-
-  abbrev shapes : Type 0
-  shapes = Shaped s frames (length input) (length output) (length work)
-
-  abbrev workThen : List Float
-  workThen = workAfter s frames mask input 0 work
-
-  abbrev outputThen : List Float
-  outputThen = outputAfter s mask workThen 0 output
-
-  -- what holds of the areas given, and of those that an accepted block leaves, holds of those that every block leaves
-  every-block : (P : List Float → List Float → Type 0) → P output work → (shapes → P outputThen workThen) → P (left .output) (left .work)
-  every-block P r g = go (planned s frames mask (length input) (length output) (length work)) refl
-    where
-      go : (p : Said State) → planned s frames mask (length input) (length output) (length work) ≡ p
-          → P (blockEnd s frames mask input output work p .output) (blockEnd s frames mask input output work p .work)
-      go (given t) e = g (shape-of s frames mask (length input) (length output) (length work) t e)
-      go (refused n vs) e = r
-
   -- ---- every block, refused or not
-  -- the areas stay as long as they are
   pub output-stays-long : length (left .output) ≡ length output
-  unfolding outputAfter
-  output-stays-long =
-      every-block (λ o w. length o ≡ length output) refl
-      (λ h. ran-long (s .degree) (s .input) mask workThen (strideOf s) (stepNow s) (incrementOf s) (s .index) 0 (length output / s .channels) (s .output) (s .channels) output
-      (rw zero-add (h .written-out .enough)) (le-of-eq (h .written-out .whole)))
+  output-stays-long = areas.every-block s frames mask input output work (λ o w. length o ≡ length output) refl (areas.output-long s frames mask input output work)
 
   pub work-stays-long : length (left .work) ≡ length work
-  work-stays-long = every-block (λ o w. length w ≡ length work) refl (λ h. work-long s frames mask input work (length output) h)
+  work-stays-long = areas.every-block s frames mask input output work (λ o w. length w ≡ length work) refl (areas.work-long s frames mask input work (length output))
 
   module _ (c : ℕ) (l : c < s .channels) where
-    off-then : shapes → isOn mask c ≡ false → outputIn c outputThen ≡ outputIn c output
-    unfolding outputAfter
-    off-then h e =
-        run-off (s .degree) (s .input) mask (strideOf s) (stepNow s) (incrementOf s) (s .index) (s .output) 0 (length output / s .channels) (s .channels)
-        (rw zero-add (h .written-out .enough)) workThen output (le-of-eq (h .written-out .whole)) c l e
-
-    beyond-then : shapes → (b : Bool) → isOn mask c ≡ b → drop (s .output) (outputIn c outputThen) ≡ drop (s .output) (outputIn c output)
-    unfolding outputAfter
-    beyond-then h false e = ap (drop (s .output)) (off-then h e)
-    beyond-then h true e =
-        rw zero-add at (run-beyond (s .degree) (s .input) mask (strideOf s) (stepNow s) (incrementOf s) (s .index) (s .output) 0 (length output / s .channels) (s .channels)
-        (rw zero-add (h .written-out .enough)) workThen output (le-of-eq (h .written-out .whole)) c l e)
-
     -- "Output beyond the needed frames .. stays", in each channel's share
     pub output-beyond-stays : drop (s .output) (outputIn c (left .output)) ≡ drop (s .output) (outputIn c output)
-    output-beyond-stays = every-block (λ o w. drop (s .output) (outputIn c o) ≡ drop (s .output) (outputIn c output)) refl (λ h. beyond-then h (isOn mask c) refl)
+    output-beyond-stays =
+        areas.every-block s frames mask input output work (λ o w. drop (s .output) (outputIn c o) ≡ drop (s .output) (outputIn c output)) refl
+        (λ h. areas.beyond-then s frames mask input output work c l h (isOn mask c) refl)
 
     -- "Output .. in switched-off channels stays"
     pub output-off-stays : isOn mask c ≡ false → outputIn c (left .output) ≡ outputIn c output
-    output-off-stays e = every-block (λ o w. outputIn c o ≡ outputIn c output) refl (λ h. off-then h e)
+    output-off-stays e = areas.every-block s frames mask input output work (λ o w. outputIn c o ≡ outputIn c output) refl (λ h. areas.off-then s frames mask input output work c l h e)
 
     -- "A switched-off channel's working area is untouched."
     pub work-off-stays : isOn mask c ≡ false → workIn c (left .work) ≡ workIn c work
-    work-off-stays e =
-        every-block (λ o w. workIn c w ≡ workIn c work) refl
-        (λ h. work-part s frames mask input work (length output) h c l ∙ where-off (isOn mask c) _ (movedIn mask (s .fill) (2 * pointsIn s) c (workIn c work)) e ∙ where-off (isOn mask c) _ (workIn c work) e)
+    work-off-stays e = areas.every-block s frames mask input output work (λ o w. workIn c w ≡ workIn c work) refl (λ h. areas.work-off-then s frames mask input output work c l h e)
 
-    -- ---- an accepted block
-    area-then : shapes → isOn mask c ≡ true → workIn c workThen
-        ≡ take (2 * pointsIn s) (drop (s .fill) (workIn c work)) ++ take (readOf s frames) (inputIn c) ++ replicate (s .input - readOf s frames) zeroF ++ drop (2 * pointsIn s + s .input) (workIn c work)
-    area-then h e =
-        let l2 = 2 * pointsIn s in
-        let w = workIn c work in
-        let m = moved (s .fill) l2 w in
-        let long : length w ≡ strideOf s = part-long (strideOf s) (s .channels) c work (le-of-eq (h .long)) l in
-        let fits : s .fill + l2 ≤ length w = rw long (h .fill-fits) in
-        let has : readOf s frames ≤ length (inputIn c) = rw (part-long (length input / s .channels) (s .channels) c input (le-of-eq (h .read-in .whole)) l) (h .read-in .enough) in
-        let holds : l2 + s .input ≤ length m = rw (moved-long (s .fill) l2 w fits, long) (h .input-fits) in
-        let rest : drop (l2 + s .input) m ≡ drop (l2 + s .input) w = rw (← drop-drop, moved-rest (s .fill) l2 w fits, drop-drop) in
-        work-part s frames mask input work (length output) h c l
-        ∙ where-on (isOn mask c) _ _ e ∙ ap (loaded l2 (inputIn c) (readOf s frames) (s .input)) (where-on (isOn mask c) _ _ e)
-        ∙ loaded-parts l2 (inputIn c) (readOf s frames) (s .input) m holds (h .read-most) has
-        ∙ rw (moved-front (s .fill) l2 w fits, rest)
+    -- ---- an accepted block, in a switched-on channel
+    module _ (u : Sizes) (a : left .said ≡ given u) (e : isOn mask c ≡ true) where
+      -- "In each switched-on channel, samples fill..fill+2L move to the front. Read frames follow, then zeros up to needed input."
+      pub work-on-is : workIn c (left .work) ≡ refreshed s frames (inputIn c) (workIn c work)
+      work-on-is =
+          areas.accepted-block s frames mask input output work (λ o w. workIn c w ≡ refreshed s frames (inputIn c) (workIn c work)) u a
+          (λ h r. areas.area-then s frames mask input output work c l h e)
 
-    frame-then : shapes → isOn mask c ≡ true → (f : ℕ) → f < s .output → (z : Float)
-        → getD (outputIn c outputThen) f z ≡ valueAt (s .degree) (workIn c workThen) (placeOf (shiftOf (s .degree)) (lastOf (s .degree) (s .input)) (indexAt s f))
-    unfolding outputAfter
-    frame-then h e f k z =
-        rw zero-add at (run-frame (s .degree) (s .input) mask (strideOf s) (stepNow s) (incrementOf s) (s .index) (s .output) 0 (length output / s .channels) (s .channels)
-        (rw zero-add (h .written-out .enough)) workThen output (le-of-eq (h .written-out .whole)) c l e f z k)
-
-    framed : (f : ℕ) (w : List Float) (y : Float) → Found (shiftOf (s .degree)) (lastOf (s .degree) (s .input)) (indexAt s f)
-        → y ≡ valueAt (s .degree) w (placeOf (shiftOf (s .degree)) (lastOf (s .degree) (s .input)) (indexAt s f)) → Frame s w f y
-    unfolding valueAt
-    framed f w y p e =
-        record {
-          floor = p .floor;
-          is = p .is;
-          place = p .place;
-          begins = omega (arith, p .same, before-points (s .degree));
-          ends = omega (arith, p .most);
-          value = e ∙ ap (valueAt (s .degree) w) (p .at);
-        }
-
-    -- what holds of what an accepted block leaves
-    accepted-block : (P : List Float → List Float → Type 0) (u : Sizes) → left .said ≡ given u → (shapes → reachHolds s ≡ true → P outputThen workThen) → P (left .output) (left .work)
-    accepted-block P u a g = go (planned s frames mask (length input) (length output) (length work)) refl a
-      where
-        go : (p : Said State) → planned s frames mask (length input) (length output) (length work) ≡ p → blockEnd s frames mask input output work p .said ≡ given u
-            → P (blockEnd s frames mask input output work p .output) (blockEnd s frames mask input output work p .work)
-        go (refused n vs) q a = absurd (let x : _≡_ {A = ℕ} 0 1 = cc in omega arith)
-        go (given t) q a =
-            g (shape-of s frames mask (length input) (length output) (length work) t q) (passed s t frames mask (length input) (length output) (length work) q .reach)
-
-    -- "In each switched-on channel, samples fill..fill+2L move to the front. Read frames follow, then zeros up to needed input." What lies beyond stays
-    pub work-on-is : (u : Sizes) → left .said ≡ given u → isOn mask c ≡ true → workIn c (left .work)
-        ≡ take (2 * pointsIn s) (drop (s .fill) (workIn c work)) ++ take (readOf s frames) (inputIn c) ++ replicate (s .input - readOf s frames) zeroF ++ drop (2 * pointsIn s + s .input) (workIn c work)
-    work-on-is u a e =
-        accepted-block (λ o w. workIn c w
-        ≡ take (2 * pointsIn s) (drop (s .fill) (workIn c work)) ++ take (readOf s frames) (inputIn c) ++ replicate (s .input - readOf s frames) zeroF ++ drop (2 * pointsIn s + s .input) (workIn c work))
-        u a (λ h r. area-then h e)
-
-    -- each frame of a switched-on channel is the kernel's value on its neighbours, in the working area that the block leaves; z is read where there is no frame
-    pub frame-is : (u : Sizes) → left .said ≡ given u → isOn mask c ≡ true → (f : ℕ) → f < s .output → (z : Float) → Frame s (workIn c (left .work)) f (getD (outputIn c (left .output)) f z)
-    frame-is u a e f k z =
-        accepted-block (λ o w. Frame s (workIn c w) f (getD (outputIn c o) f z)) u a
-        (λ h r. framed f (workIn c workThen) _
-        (found _ _ (indexAt s f) (path-fits (stepNow s) (incrementOf s) (s .index) f)
-        (reach-each (shiftOf (s .degree)) (lastOf (s .degree) (s .input)) (stepNow s) (incrementOf s) (s .index) (s .output) r (suc f) (omega arith) k))
-        (frame-then h e f k z))
+      -- each frame is the kernel's value on its neighbours in the working area that the block leaves; z would be read where there is no frame
+      pub frame-is : (f : ℕ) → f < s .output → (z : Float) → Frame s (workIn c (left .work)) f (getD (outputIn c (left .output)) f z)
+      frame-is f k z =
+          areas.accepted-block s frames mask input output work (λ o w. Frame s (workIn c w) f (getD (outputIn c o) f z)) u a
+          (λ h r. areas.frame-is-then s frames mask input output work c l h r e f k z)

@@ -1,8 +1,10 @@
--- The headline claims, a file each; Places has laws for Block and Reach. Assumes nothing.
+-- The headline claims, a file each, and the laws that only they use: Areas, Places and Indices. Assumes nothing.
 pub mod Bench
 pub mod Nodes
 pub mod Cubics
-pub mod Places
+mod Places
+mod Areas
+mod Indices
 pub mod Block
 pub mod Reach
 pub mod Refused

@@ -25,7 +25,7 @@ use Rattle.path.specs.declared.Place.{Place}
 use Rattle.path.specs.declared.Place.the-variants.{At}
 use Rattle.path.specs.Places.{within, placeFrom, placeOf, isAt, shiftOf, lastOf}
 use Rattle.path.proofs.Bounds.{Placed}
-use Rattle.theorems.specs.Neighbours.{Floor, firstFrom, lastFrom}
+use Rattle.theorems.specs.Block.{Floor, firstFrom, lastFrom}
 
 -- ---- the floor of a number, in units of which U make one
 floor-by : (U : ℕ) (v w k : Whole) → Same w (U ⊙ k) → AtMost w v → Less v (w ⊕ (U, 0)) → AtMost (U ⊙ k) v × Less v (U ⊙ (k ⊕ (1, 0)))

@@ -78,39 +78,40 @@ doubles = map double
 
 -- ---- the rows
 -- 1: Septic, fixed input 1024, r 1/16, m 16: out 63; then index -20, out 64
-abbrev pub first : Said State
-first = construct sixteenthF (count 16) Septic 1024 1 Input
+abbrev pub septicMade : Said State
+septicMade = construct sixteenthF (count 16) Septic 1024 1 Input
 
 abbrev pub case-1 : Case
 case-1 = record {
   number = 1;
-  gives = built first (λ s. size (s .output) ∷ double (firstBlock s .state .index) ∷ size (firstBlock s .state .output) ∷ []);
+  gives = built septicMade (λ s. size (s .output) ∷ double (firstBlock s .state .index) ∷ size (firstBlock s .state .output) ∷ []);
   found = size 63 ∷ double (neg (count 20)) ∷ size 64 ∷ [];
 }
 
 -- 2: then ratio 1, no ramp: out 1035; the block is refused 9
--- b is the block of case 1: its record is set to ratio 1, and the working area that it left is lent to the next block
+-- the output size of a record, and what a block on the working area `work` says
 abbrev pub nextBlock : State → List Float → List Item
 nextBlock s work = size (s .output) ∷ blockSaid (blockOn s (silence s) work)
 
+-- after the block b of case 1: its record set to ratio 1, and the working area that it left lent to the next block
 abbrev pub atRatio1 : Block Sizes → List Item
 atRatio1 b = nextBlock (setRatio (b .state) oneF false .state) (b .work)
 
 abbrev pub case-2 : Case
 case-2 = record {
   number = 2;
-  gives = built first (λ s. atRatio1 (firstBlock s));
+  gives = built septicMade (λ s. atRatio1 (firstBlock s));
   found = size 1035 ∷ refusal 9 ∷ [];
 }
 
 -- 3: Linear, fixed output 4, r 1, m 1: in 5; then index -2, in 4
-abbrev pub third : Said State
-third = construct oneF oneF Linear 4 1 Output
+abbrev pub linearMade : Said State
+linearMade = construct oneF oneF Linear 4 1 Output
 
 abbrev pub case-3 : Case
 case-3 = record {
   number = 3;
-  gives = built third (λ s. size (s .input) ∷ double (firstBlock s .state .index) ∷ size (firstBlock s .state .input) ∷ []);
+  gives = built linearMade (λ s. size (s .input) ∷ double (firstBlock s .state .index) ∷ size (firstBlock s .state .input) ∷ []);
   found = size 5 ∷ double (neg (count 2)) ∷ size 4 ∷ [];
 }
 
@@ -121,7 +122,7 @@ twoBlocks s b = doubles (b .output) ++ doubles (blockOn (b .state) (wholes (60 �
 abbrev pub case-4 : Case
 case-4 = record {
   number = 4;
-  gives = built third (λ s. twoBlocks s (blockOn s (wholes (10 ∷ 20 ∷ 30 ∷ 40 ∷ 50 ∷ [])) (zeros s)));
+  gives = built linearMade (λ s. twoBlocks s (blockOn s (wholes (10 ∷ 20 ∷ 30 ∷ 40 ∷ 50 ∷ [])) (zeros s)));
   found = doubles (wholes (10 ∷ 20 ∷ 30 ∷ 40 ∷ [])) ++ doubles (wholes (50 ∷ 60 ∷ 70 ∷ 80 ∷ []));
 }
 

@@ -1,3 +1,3 @@
--- The table of bench cases, and a frame's neighbours. Definitions only.
+-- The table of bench cases, and what a block does. Definitions only.
 pub mod Bench
-pub mod Neighbours
+pub mod Block

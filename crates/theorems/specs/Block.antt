@@ -1,12 +1,12 @@
--- Document 01, "Block run", 4, and Reach, in whole numbers: where a frame's neighbours lie, and what its value is. Definitions only.
+-- Document 01, "Block run", for the claims: where a frame's neighbours lie, in whole numbers, what its value is, and a channel's working area once it is moved and read. Definitions only.
 -- A pair (a, b) of natural numbers stands for a - b. A double's exact value is a whole number of 2 ^ -1074: 2 ^ 1074 of these make one.
-use mathlib.Core.List.{List}
+use mathlib.Core.List.{List, _++_}
 use mathlib.Core.Logic.{_⊎_}
 use mathlib.Core.Path.{_≡_}
-use Prim.Native.Nat.{ℕ, suc, _+_, _*_, _^_, _≤_}
+use Prim.Native.Nat.{ℕ, suc, _+_, _-_, _*_, _^_, _≤_, _<_}
 use lib.Ieee.{Float, binary64, low}
-use lib.ListN.{take, drop}
-use Rattle.exact.specs.Doubles.{_-f_}
+use lib.ListN.{take, drop, replicate}
+use Rattle.exact.specs.Doubles.{_-f_, zeroF}
 use Rattle.exact.specs.Whole.{Whole, _⊕_, _⊖_, _⊙_, Same, Less, AtMost}
 use Rattle.exact.specs.Exact.{exact, Number}
 use Rattle.whole.specs.Rounded.{floorOf}
@@ -16,7 +16,7 @@ use Rattle.asynchro_fast.specs.Kernels.{interpOf}
 use Rattle.state.specs.declared.State.{State}
 use Rattle.state.specs.Record.{pointsIn, stepNow}
 use Rattle.path.specs.Path.{pathAt}
-use Rattle.plan.specs.Plan.{incrementOf}
+use Rattle.plan.specs.Plan.{readOf, incrementOf}
 
 -- k is floor(x): k ≤ x < k + 1
 pub record Floor (x : Float) (k : Whole) : Type 0 where
@@ -41,6 +41,10 @@ pub record Outside (s : State) (f : ℕ) : Type 0 where
   pub is : Floor (indexAt s f) floor
   pub out : Less (firstFrom (s .degree) floor) (0, 0) ⊎ AtMost (2 * pointsIn s + s .input, 0) (lastFrom (s .degree) floor)
 
+-- "some frame's neighbours, masks disregarded, lie below 0 or at or past 2L+needed input"
+abbrev pub SomeOutside : State → Type 0
+SomeOutside s = (f : ℕ) × (f < s .output) × Outside s f
+
 -- y is frame f's value on the working area `work` of one channel: the kernel at frac = index - floor(index) on L neighbours, which begin at floor(index) - b + 2L and end below 2L + needed input
 pub record Frame (s : State) (work : List Float) (f : ℕ) (y : Float) : Type 0 where
   pub floor : Whole
@@ -49,3 +53,8 @@ pub record Frame (s : State) (work : List Float) (f : ℕ) (y : Float) : Type 0 
   pub begins : Same (place, 0) (firstFrom (s .degree) floor)
   pub ends : place + pointsIn s ≤ 2 * pointsIn s + s .input
   pub value : y ≡ interpOf (s .degree) (indexAt s f -f floorOf (indexAt s f)) (take (pointsIn s) (drop place work))
+
+-- "samples fill..fill+2L move to the front. Read frames follow, then zeros up to needed input": of one channel's input and working area; what lies beyond stays
+abbrev pub refreshed : State → ℕ → List Float → List Float → List Float
+refreshed s frames input work =
+    take (2 * pointsIn s) (drop (s .fill) work) ++ take (readOf s frames) input ++ replicate (s .input - readOf s frames) zeroF ++ drop (2 * pointsIn s + s .input) work
