@@ -94,8 +94,3 @@ module _ {A : Type 0} (g : ℕ → List A → List A) (share n : ℕ) (w : List 
   -- two passes are one
   pub each-each : (h : ℕ → List A → List A) → eachPart h share n (eachPart g share n w) ≡ eachPart (λ c p. h c (g c p)) share n w
   each-each h = each-alike h (λ c p. h c (g c p)) share n (eachPart g share n w) w (λ c l. ap (h c) (part-each c l)) rest-each
-
--- channels are apart: what is made of a part depends on nothing but that part
-pub each-apart : {A : Type 0} (g h : ℕ → List A → List A) (share n : ℕ) (w v : List A) → Keeps g share n → Keeps h share n → n * share ≤ length w → n * share ≤ length v
-    → (c : ℕ) → c < n → g c (partOf share c w) ≡ h c (partOf share c v) → partOf share c (eachPart g share n w) ≡ partOf share c (eachPart h share n v)
-each-apart g h share n w v kg kh fw fv c l e = part-each g share n w kg fw c l ∙ e ∙ sym (part-each h share n v kh fv c l)
