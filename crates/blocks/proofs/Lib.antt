@@ -1,2 +1,3 @@
 -- Laws that the proofs here share. Assumes nothing.
 pub mod Pieces
+pub mod Held

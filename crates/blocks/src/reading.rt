@@ -1,15 +1,13 @@
-// A block's samples, read in pieces.
+// Samples of a file, read in pieces. Only this crate calls these functions.
 use samples::least;
 use samples::samples_in;
 use samples::spread;
-use samples::takes;
-ghost use mathlib.Core.Bool.{true, false, _&&_, not};
+ghost use mathlib.Core.Bool.{_&&_, not};
 ghost use mathlib.Core.Path.{_≡_};
 ghost use Prim.Native.Nat.{_*_, _<_, _≤_};
 ghost use lib.Dec.{ltb};
 ghost use lib.ListN.{length};
-ghost use Rattle.samples.specs.Counts.{taken};
-ghost use Rattle.blocks.specs.Blocks.{PieceRead, BlockRead};
+ghost use Rattle.blocks.specs.Blocks.{PieceRead, PiecesRead};
 
 // So many bytes have been read. `open` says that there may be more, `failed` that a read failed.
 struct Filled {
@@ -18,8 +16,9 @@ struct Filled {
     failed: bool,
 }
 
-// What was read of a block: whole samples, the bytes of a broken one, and whether the input is over.
-pub struct Reading {
+// What stands in an area: so many samples, counted from its first one, and the bytes of a broken one behind
+// them; and whether the input is over.
+pub struct Piece {
     pub samples: usize,
     pub rest: usize,
     pub ended: bool,
@@ -74,21 +73,21 @@ fn fill(fd: i32, bytes: &mut [u8], want: usize) -> Filled
 fn read_piece(
     fd: i32,
     bytes: &mut [u8],
-    input: &mut [f64],
+    area: &mut [f64],
     channels: usize,
     share: usize,
     most: usize,
     done: usize,
-) -> Reading
-    requires { ⌜ (0 < channels) × (most ≡ channels * share) × (most ≤ 1048576) × (most ≤ length (now input)) × (done ≤ most) ⌝ }
-    ensures { λ r. ⌜ PieceRead (length (now (bytes .entry))) channels share most done (now (input .entry)) (now (input .exit)) (r .samples) (r .ended) ⌝ }
+) -> Piece
+    requires { ⌜ (0 < channels) × (most ≡ channels * share) × (most ≤ 1048576) × (most ≤ length (now area)) × (done ≤ most) ⌝ }
+    ensures { λ r. ⌜ PieceRead (length (now (bytes .entry))) channels share most done (now (area .entry)) (now (area .exit)) (r .samples) (r .rest) (r .ended) ⌝ }
 {
     let want = least(bytes.len() / 8, most - done);
     let filled = fill(fd, bytes, 8 * want);
     let count = filled.count;
     let n = count / 8;
-    spread(bytes, n, input, channels, share, done);
-    Reading {
+    spread(bytes, n, area, channels, share, done);
+    Piece {
         samples: done + n,
         rest: count % 8,
         ended: count < 8 * want,
@@ -96,53 +95,54 @@ fn read_piece(
     }
 }
 
-fn wants_more(r: Reading, most: usize) -> bool
-    ensures { λ b. ⌜ b ≡ (not (r .ended) && ltb (r .samples) most) ⌝ }
+fn wants_more(p: Piece, most: usize) -> bool
+    ensures { λ b. ⌜ b ≡ (not (p .ended) && ltb (p .samples) most) ⌝ }
 {
-    !r.ended & (r.samples < most)
+    !p.ended & (p.samples < most)
 }
 
-// The samples of a block of `share` frames, in pieces. Each turn reads one or more, or finds the end.
-fn read_pieces(
+// The samples behind `done` of an area of `share` frames, in pieces: none where the input is over. Each
+// turn reads one or more, or finds the end.
+pub fn read_pieces(
     fd: i32,
     bytes: &mut [u8],
-    input: &mut [f64],
+    area: &mut [f64],
     channels: usize,
     share: usize,
     most: usize,
-) -> Reading
-    requires { ⌜ (0 < channels) × (most ≡ channels * share) × (most ≤ 1048576) × (most ≤ length (now input)) × (8 ≤ length (now bytes)) ⌝ }
-    ensures { λ r. ⌜ BlockRead channels share most (now (input .entry)) (now (input .exit)) (r .samples) (r .ended) ⌝ }
+    done: usize,
+    over: bool,
+) -> Piece
+    requires { ⌜ (0 < channels) × (most ≡ channels * share) × (most ≤ 1048576) × (most ≤ length (now area)) × (done ≤ most) × (8 ≤ length (now bytes)) ⌝ }
+    ensures { λ r. ⌜ PiecesRead channels share most done over (now (area .entry)) (now (area .exit)) (r .samples) (r .rest) (r .ended) ⌝ }
 {
-    let mut r = no_reading();
+    let mut p = Piece {
+        samples: done,
+        rest: 0,
+        ended: over,
+        failed: false,
+    };
     let mut turns = most;
-    while turns > 0 && wants_more(r, most) {
-        r = read_piece(fd, bytes, input, channels, share, most, r.samples);
+    while turns > 0 && wants_more(p, most) {
+        p = read_piece(fd, bytes, area, channels, share, most, p.samples);
         turns -= 1;
     }
-    r
+    p
 }
 
-fn no_reading() -> Reading
-    ensures { λ r. ⌜ (r .samples ≡ 0) × (r .rest ≡ 0) × (r .ended ≡ false) × (r .failed ≡ false) ⌝ }
+// The same with a buffer of its own.
+pub fn read_area(
+    fd: i32,
+    area: &mut [f64],
+    channels: usize,
+    share: usize,
+    done: usize,
+    over: bool,
+) -> Piece
+    requires { ⌜ (0 < channels) × (channels ≤ 16) × (share ≤ 65536) × (channels * share ≤ length (now area)) × (done ≤ channels * share) ⌝ }
+    ensures { λ r. ⌜ PiecesRead channels share (channels * share) done over (now (area .entry)) (now (area .exit)) (r .samples) (r .rest) (r .ended) ⌝ }
 {
-    Reading {
-        samples: 0,
-        rest: 0,
-        ended: false,
-        failed: false,
-    }
-}
-
-// The samples of a block of `share` frames, if the area has room for them; nothing where it has not.
-pub fn read_block(fd: i32, input: &mut [f64], channels: usize, share: usize) -> Reading
-    ensures { λ r. ⌜ (taken channels share (length (now (input .entry))) ≡ true → BlockRead channels share (channels * share) (now (input .entry)) (now (input .exit)) (r .samples) (r .ended)) ⌝ }
-    ensures { λ r. ⌜ (taken channels share (length (now (input .entry))) ≡ false → (now (input .exit) ≡ now (input .entry)) × (r .samples ≡ 0) × (r .ended ≡ false)) ⌝ }
-{
-    if !takes(channels, share, input.len()) {
-        return no_reading();
-    }
     let most = samples_in(channels, share);
     let mut bytes = [0u8; 8192];
-    read_pieces(fd, &mut bytes, input, channels, share, most)
+    read_pieces(fd, &mut bytes, area, channels, share, most, done, over)
 }

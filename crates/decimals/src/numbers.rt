@@ -1,9 +1,9 @@
 // Numbers as words on a command line: a decimal, a quotient or bits in hex, each rounded once.
+use crate::nearest::nearest;
 use text::Parsed;
 ghost use mathlib.Core.Path.{_≡_};
 ghost use Prim.Native.Nat.{_^_, _<_};
-ghost use Rattle.exact.specs.Doubles.{count, _/f_};
-ghost use Rattle.decimals.specs.Numbers.{wholeOf, decimalIn, quotientIn, bitsIn, numberOf};
+ghost use Rattle.decimals.specs.Numbers.{digitsOf, wholeOf, counted, decimalIn, quotientOf, bitsIn, numberOf};
 
 // The double of a word, or that the word is none.
 pub enum Number {
@@ -11,15 +11,8 @@ pub enum Number {
     Bad,
 }
 
-// The nearest double to a count.
-fn float_of(n: u64) -> f64
-    ensures { λ r. ⌜ r ≡ count n ⌝ }
-{
-    std::num::nearest_u64_to_f64(n)
-}
-
 fn power_of_ten(k: usize) -> u64
-    requires { ⌜ k < 16 ⌝ }
+    requires { ⌜ k < 20 ⌝ }
     ensures { λ r. ⌜ r ≡ 10 ^ k ⌝ }
 {
     let mut power: u64 = 1;
@@ -29,28 +22,45 @@ fn power_of_ten(k: usize) -> u64
     power
 }
 
-// A word of up to 15 digits.
+// A word of up to 19 digits.
+fn digits(word: &[u8]) -> Parsed
+    ensures { λ r. ⌜ r ≡ digitsOf (now (word .entry)) ⌝ }
+{
+    if word.len() > 19 {
+        return Parsed::Bad;
+    }
+    text::decimal_of(word)
+}
+
 fn whole(word: &[u8]) -> Number
     ensures { λ r. ⌜ r ≡ wholeOf (now (word .entry)) ⌝ }
 {
-    if word.len() > 15 {
-        return Number::Bad;
-    }
-    let Parsed::Number(n) = text::decimal_of(word) else {
+    let Parsed::Number(n) = digits(word) else {
         return Number::Bad;
     };
-    Number::Value(float_of(n))
+    Number::Value(nearest(n, 1))
 }
 
-// Digits before and behind a point, up to 15 in all: their number over a power of ten.
+// How many of the digits before a point count: a lone 0 does not.
+fn counting(before: &[u8]) -> usize
+    ensures { λ r. ⌜ r ≡ counted (now (before .entry)) ⌝ }
+{
+    let n = before.len();
+    if n != 1 {
+        return n;
+    }
+    if before[0] == 48 { 0 } else { 1 }
+}
+
+// Digits before and behind a point, up to 19 in all: their number over a power of ten.
 fn decimal(before: &[u8], behind: &[u8]) -> Number
     ensures { λ r. ⌜ r ≡ decimalIn (now (before .entry)) (now (behind .entry)) ⌝ }
 {
     let places = behind.len();
-    if places > 15 {
+    if places > 19 {
         return Number::Bad;
     }
-    if before.len() > 15 - places {
+    if counting(before) > 19 - places {
         return Number::Bad;
     }
     let Parsed::Number(n) = text::decimal_of(before) else {
@@ -60,29 +70,23 @@ fn decimal(before: &[u8], behind: &[u8]) -> Number
         return Number::Bad;
     };
     let ten = power_of_ten(places);
-    Number::Value(float_of(n * ten + k) / float_of(ten))
+    Number::Value(nearest(n * ten + k, ten))
 }
 
-// Two whole numbers of up to 15 digits each, the second not 0.
-fn quotient(above: &[u8], below: &[u8]) -> Number
-    ensures { λ r. ⌜ r ≡ quotientIn (now (above .entry)) (now (below .entry)) ⌝ }
+// Two whole numbers of up to 19 digits each, the second not 0: the one over the other.
+pub fn quotient_of(above: &[u8], below: &[u8]) -> Number
+    ensures { λ r. ⌜ r ≡ quotientOf (now (above .entry)) (now (below .entry)) ⌝ }
 {
-    if above.len() > 15 {
-        return Number::Bad;
-    }
-    if below.len() > 15 {
-        return Number::Bad;
-    }
-    let Parsed::Number(n) = text::decimal_of(above) else {
+    let Parsed::Number(n) = digits(above) else {
         return Number::Bad;
     };
-    let Parsed::Number(k) = text::decimal_of(below) else {
+    let Parsed::Number(k) = digits(below) else {
         return Number::Bad;
     };
     if k == 0 {
         return Number::Bad;
     }
-    Number::Value(float_of(n) / float_of(k))
+    Number::Value(nearest(n, k))
 }
 
 // Sixteen hex digits.
@@ -112,7 +116,7 @@ pub fn number_of(word: &[u8]) -> Number
     }
     let bar = bytes::scan::find(word, 0, n, 47);
     if bar < n {
-        return quotient(&word[..bar], &word[bar + 1..]);
+        return quotient_of(&word[..bar], &word[bar + 1..]);
     }
     whole(word)
 }

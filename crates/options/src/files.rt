@@ -1,97 +1,133 @@
-// The files that the words name.
-use crate::messages::say;
-use crate::messages::say_start;
+// The files that the words name, opened in order.
+use crate::clashes::has_clash;
+use crate::clashes::is_output;
+use crate::clashes::log_stream;
+use crate::named::Act;
+use crate::named::act_at;
 use crate::options::Options;
+use file_facts::Facts;
 
-// Where samples come from and go to, and where the log goes. `good` says that each is open.
+// Where samples come from and go to, where the log goes, and the plan; -1 is none. `input_bytes` is
+// the input's size where it is a regular file, else 0. `good` says that each is open.
 pub struct Files {
     pub input: i32,
     pub output: i32,
     pub log: i32,
+    pub plan: i32,
     pub log_file: bool,
+    pub input_bytes: u64,
     pub good: bool,
 }
 
-fn cannot_open(path: &[u8]) {
-    say_start();
-    say(b"cannot open ");
-    os::fail(path);
+// Fills the lowest descriptor that is closed, if it is a standard stream; whether it was one.
+fn fill_one() -> bool {
+    let fd = os::open_read(b"/dev/null");
+    if fd >= 2 {
+        libc::close(fd);
+    }
+    if fd == 2 {
+        os::open_update(b"/dev/null");
+    }
+    (fd >= 0) & (fd < 3)
 }
 
-// The file that the word `at` names, for reading; standard input where `at` is 0.
-fn open_input(at: usize) -> i32 {
-    if at == 0 {
-        return libc::STDIN_FILENO;
-    }
-    let mut word = io::buffer();
-    let n = os::arg(at, &mut word);
-    let fd = os::open_read(&word[..n]);
-    if fd < 0 {
-        cannot_open(&word[..n]);
-    }
-    fd
-}
-
-// The file that the word `at` names, for writing; the descriptor `usual` where `at` is 0.
-fn open_output(at: usize, usual: i32) -> i32 {
-    if at == 0 {
-        return usual;
-    }
-    let mut word = io::buffer();
-    let n = os::arg(at, &mut word);
-    let fd = os::open_overwrite(&word[..n]);
-    if fd < 0 {
-        cannot_open(&word[..n]);
-    }
-    fd
-}
-
-// Whether the word `at` is `-`.
-fn is_dash(at: usize) -> bool {
-    let mut word = io::buffer();
-    let n = os::arg(at, &mut word);
-    (at > 0) & check::same(&word[..n], b"-")
-}
-
-// `-` is standard output, which must then be free of samples.
-fn open_log(at: usize, output: usize) -> i32 {
-    if !is_dash(at) {
-        return open_output(at, libc::STDERR_FILENO);
-    }
-    if output > 0 {
-        return libc::STDOUT_FILENO;
-    }
-    say_start();
-    say(b"--log - wants --out FILE, since samples go to standard output\n");
-    -1
-}
-
-fn no_files() -> Files {
-    Files {
-        input: 0,
-        output: 1,
-        log: 2,
-        log_file: false,
-        good: false,
+// A standard stream that is closed must not become a file of ours: what is opened next has a descriptor
+// above 2. Such an input is empty, writing to such an output fails, and such a standard error is nowhere.
+pub fn fill_low() {
+    if fill_one() {
+        if fill_one() {
+            fill_one();
+        }
     }
 }
 
-// Opens them in order, and stops at the first that cannot be opened.
-pub fn open_files(o: Options) -> Files {
-    let input = open_input(o.input);
-    if input < 0 {
-        return no_files();
-    }
-    let log = open_log(o.log, o.output);
-    if log < 0 {
-        return no_files();
-    }
-    let output = open_output(o.output, libc::STDOUT_FILENO);
+fn files_of(input: i32, plan: i32, input_bytes: u64, good: bool) -> Files {
     Files {
         input,
-        output,
-        log,
-        log_file: o.log > 0,
-        good: output >= 0,
+        output: -1,
+        log: libc::STDERR_FILENO,
+        plan,
+        log_file: false,
+        input_bytes,
+        good,
+    }
+}
+
+// Nothing is open: `good` says that nothing had to be.
+pub fn no_files(good: bool) -> Files {
+    files_of(libc::STDIN_FILENO, -1, 0, good)
+}
+
+fn bytes_in(input: Facts) -> u64 {
+    if file_facts::is_regular(input) {
+        return input.size;
+    }
+    0
+}
+
+// Opens the log. Where it is a second name of the output, as far as the system tells, that is told; one
+// that was not there before is removed again.
+pub fn open_log(o: Options, f: Files) -> Files {
+    let place = o.log;
+    let log = act_at(Act::Write, place, log_stream(o));
+    if log.fd < 0 {
+        return no_files(false);
+    }
+    if is_output(o, log.fd) {
+        if log.made {
+            act_at(Act::Remove, place, -1);
+        }
+        return no_files(false);
+    }
+    Files {
+        input: f.input,
+        output: -1,
+        log: log.fd,
+        plan: f.plan,
+        log_file: log.fd != libc::STDERR_FILENO,
+        input_bytes: f.input_bytes,
+        good: true,
+    }
+}
+
+// Input and plan are open: sees that nothing would be overwritten by accident.
+fn with_inputs(o: Options, input: i32, plan: i32) -> Files {
+    let facts = file_facts::facts_of(input);
+    if has_clash(o, facts, file_facts::facts_of(plan)) {
+        return no_files(false);
+    }
+    files_of(input, plan, bytes_in(facts), true)
+}
+
+// Opens input and plan. Where one cannot be opened, or a file that is to be written is another one, that is
+// told, and `good` is false. Tones have neither.
+pub fn open_inputs(o: Options) -> Files {
+    fill_low();
+    if o.has_tones {
+        return no_files(true);
+    }
+    let place = o.plan;
+    let input = act_at(Act::Read, o.input, libc::STDIN_FILENO);
+    let plan = act_at(Act::Read, place, -1);
+    if (input.fd < 0) | ((place.at > 0) & (plan.fd < 0)) {
+        return no_files(false);
+    }
+    with_inputs(o, input.fd, plan.fd)
+}
+
+// Opens the output last.
+pub fn open_output(o: Options, f: Files) -> Files {
+    if !f.good {
+        return f;
+    }
+    let output = act_at(Act::Write, o.output, libc::STDOUT_FILENO);
+    Files {
+        input: f.input,
+        output: output.fd,
+        log: f.log,
+        plan: f.plan,
+        log_file: f.log_file,
+        input_bytes: f.input_bytes,
+        good: output.fd >= 0,
     }
 }

@@ -1,46 +1,72 @@
-// What `--help` prints, on standard output: one text, which the check takes at a time.
-pub fn help() {
+// What `--help` and `--version` print: one text each.
+// Whether each was written is the answer.
+pub fn write_version(fd: i32) -> bool {
+    io::write_all(
+        fd,
+        b"resample 1.0, the polynomial resampler of rubato 5.0.1\n",
+    )
+}
+
+pub fn help() -> bool {
     io::write_all(
         libc::STDOUT_FILENO,
         b"resample: samples in, samples out, at another rate.
 
-  resample --ratio R [WORDS]     R is output frames for each input frame
-  resample --tones FRAMES        two test tones in two channels
+  resample --ratio R [WORDS]        R is output frames for each input frame
+  resample --rates IN OUT [WORDS]   the same with R = OUT/IN
+  resample --tones FRAMES           two test tones in two channels
 
 Samples are 64-bit floats, lowest byte first; a frame is a sample of each
-channel. Input is standard input or a file, of any length; output likewise.
+channel. A word with one value can be written --name=value too.
 
-  --ratio R      a decimal of up to 15 digits (1.25), a quotient of two whole
-                 numbers of up to 15 digits each (160/147), or the 16 hex digits
-                 of its bits (x3ff4000000000000); 1/256 to 256
-  --m M          how far a change may go: R/M to R*M; 1 or more; 2 unless given
-  --degree D     nearest, linear, cubic, quintic or septic; septic unless given
-  --chunk N      frames a block on the fixed side; 1024 unless given
-  --fixed S      in or out, the side whose blocks have N frames; out unless given
+  --in FILE      read it, and not standard input (- is standard input)
+  --out FILE     write it, and not standard output (- is standard output)
   --channels C   1 to 16; 1 unless given
-  --mask M       bit c is 1 where channel c is switched on; all on unless given
-  --in FILE      read it, and not standard input
-  --out FILE     write it, and not standard output
-  --log FILE     the log goes there, and not to standard error; - is standard
-                 output, with --out
+  --ratio R      a decimal of up to 19 digits (1.25), a quotient of two whole
+                 numbers of up to 19 digits (160/147), or the 16 hex digits of
+                 its bits (x3ff4000000000000); 1/256 to 256
+  --rates IN OUT two whole numbers of up to 19 digits (48000 44100)
+  --degree D     nearest, linear, cubic, quintic or septic; septic unless given
+  --fixed S      in or out: which blocks have N frames; out unless given
+  --chunk N      frames a block on the fixed side; 1024 unless given
+  --mask M       bit c is 1 where channel c is switched on; all on unless given.
+                 A channel that is off is silence
+  --m M          how far a change may go: R/M to R*M; 1 or more; 2 unless given
   --at B R       the ratio is R from block B on; blocks count from 0
   --ramp B R     the same, and block B goes to it step by step
-                 (up to 16 changes in all)
+                 (up to 16 --at and --ramp in all)
+  --plan FILE    any number of changes, a line each, their blocks in rising
+                 order: at B R, ramp B R or mask B M
+  --log FILE     the log goes there, and not to standard error; - is standard
+                 output, with --out
+  --raw          the blocks as they come, whole, with delay and padding
+  --force        take an input that begins as a WAV file does (RIFF) as samples
+  --status FILE  the exit status goes there, as a digit and a line feed
+  --help, -h     this text
+  --version      the version
 
-The log has a line a block: the frames in and out, the step at its start and the
-step's increment a frame, the index it leaves, all output frames N and blocks B
-so far. Floats are the 16 hex digits of their bits, which is exact.
+The output is cut to the input: after the last input frame zeros are fed, and
+the frames are written whose position lies from 0 up to the input's end (with a
+margin of 2^-20 at both). The log and the last message say how many were cut at
+each end and where the first one stands. --raw cuts nothing: the first frames
+lie before the input by the delay, and the last block's input is filled up with
+zeros. A NaN is written as 7ff8000000000000, whatever NaN it was.
 
-The last block may have fewer frames than it needs: zeros follow them, and then
-the run stops. The delay's tail behind it is not flushed: for that, put zeros
-behind the input. A NaN is written as 7ff8000000000000, whatever NaN it was.
+The log has the words and settings, then a line a block: the frames in and out,
+the step at its start and its increment a frame, the index it leaves, all output
+frames N and blocks B so far. An x and 16 hex digits are a float's bits.
+
+An output or log that is the input, the plan or the other one is refused before
+it is opened. A change that no block reached is told at the end.
 
   resample --tones 48000 --out tones.f64
-  resample --ratio 160/147 --channels 2 --in tones.f64 --out new.f64
-  resample --ratio 1 --m 4 --channels 2 --ramp 10 2 --ramp 20 0.5 <tones.f64 >new.f64
+  resample --rates 48000 44100 --channels 2 --in tones.f64 --out new.f64
+  resample --ratio 1 --m 4 --channels 2 --ramp 10 2 <tones.f64 >new.f64
 
-A refusal is told with its number and name. 9, Reach, comes after a steep rise of
-the ratio with --fixed in: raise it in smaller steps, or use --fixed out.
+A refusal is told with its number and name. 9, Reach, comes after a steep rise
+of the ratio with --fixed in: raise it in smaller steps, or use --fixed out.
+./hazivotra resample exits with 0 where all went well, 1 where not (a refusal, a
+file, an empty input, a change not reached), and 2 where a word was bad.
 ",
-    );
+    )
 }

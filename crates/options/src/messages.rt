@@ -1,6 +1,8 @@
 // Messages on standard error.
+use crate::lists::put_nth;
 use error::Carried;
 use error::Refusal;
+use printer::bytes_of;
 
 pub fn say(text: &[u8]) {
     io::write_all(libc::STDERR_FILENO, text);
@@ -10,9 +12,12 @@ pub fn say_number(n: u64) {
     io::print_decimal(libc::STDERR_FILENO, n);
 }
 
-fn say_float(x: f64) {
-    say(b" x");
-    io::print_hex(libc::STDERR_FILENO, text::bits_of(x), 16);
+// A float as a decimal and by its bits.
+pub fn say_value(x: f64) {
+    let mut line = [0u8; 128];
+    let n = values::put_value(&mut line, 0, x);
+    let k = bytes_of(&line, n);
+    say(&line[..k]);
 }
 
 // What stands before every message.
@@ -20,51 +25,57 @@ pub fn say_start() {
     say(b"resample: ");
 }
 
-fn say_name(number: u64) {
-    match number {
-        1 => say(b"InvalidRatio"),
-        2 => say(b"InvalidRelativeRatio"),
-        3 => say(b"InvalidChunkSize"),
-        4 => say(b"RatioOutOfBounds"),
-        5 => say(b"RatioBeyondPort"),
-        6 => say(b"SizeTooLarge"),
-        7 => say(b"Channels"),
-        8 => say(b"BufferShape"),
-        9 => say(b"Reach"),
-        10 => say(b"StateRecord"),
-        _ => say(b"Argument"),
-    }
+// The text n of a list.
+pub fn say_nth(list: &[u8], mark: u8, n: usize) {
+    let mut line = [0u8; 256];
+    let at = put_nth(&mut line, list, mark, n);
+    let k = bytes_of(&line, at);
+    say(&line[..k]);
 }
 
-// What to do about a refusal.
-fn say_hint(number: u64) {
-    match number {
-        1 => say(b"the ratio must be finite and above 0"),
-        2 => say(b"--m must be finite and 1 or more"),
-        3 => say(b"--chunk must be 1 or more"),
-        4 => say(b"a new ratio must lie between R/m and R*m: a larger --m allows more"),
-        5 => say(b"a ratio must lie between 1/256 and 256"),
-        6 => say(b"a size passes 65536 frames: lower --chunk or --m"),
-        7 => say(b"--channels must be 1 to 16"),
-        8 => say(b"--mask has a bit for a channel that is not there"),
-        9 => say(b"the ratio rose too fast: raise it in smaller steps, or use --fixed out"),
-        10 => say(b"the record is none that a call leaves"),
-        _ => say(b"an argument is out of its bounds"),
+// The refusals' names and what to do about each, by their numbers.
+fn say_reason(number: usize) {
+    say_nth(
+        b"InvalidRatio InvalidRelativeRatio InvalidChunkSize RatioOutOfBounds RatioBeyondPort SizeTooLarge Channels BufferShape Reach StateRecord Argument ",
+        32,
+        number,
+    );
+}
+
+fn say_hint(number: usize) {
+    say_nth(
+        b": the ratio must be finite and above 0
+: --m must be finite and 1 or more
+: --chunk must be 1 or more
+: a new ratio must lie between R/m and R*m: a larger --m allows more
+: a ratio must lie between 1/256 and 256
+: a size passes 65536 frames: lower --chunk or --m
+: --channels must be 1 to 16
+: --mask has a bit for a channel that is not there
+: the ratio rose too fast: raise it in smaller steps, or use --fixed out
+: the record is none that a call leaves
+: an argument is out of its bounds
+",
+        10,
+        number,
+    );
+}
+
+fn say_float(values: [f64; 3], count: usize, k: usize) {
+    if k < 3 {
+        if k < count {
+            say(b" ");
+            say_value(values[k]);
+        }
     }
 }
 
 fn say_carried(carried: Carried) {
     let values = carried.values;
     let count = carried.count;
-    if count > 0 {
-        say_float(values[0]);
-    }
-    if count > 1 {
-        say_float(values[1]);
-    }
-    if count > 2 {
-        say_float(values[2]);
-    }
+    say_float(values, count, 0);
+    say_float(values, count, 1);
+    say_float(values, count, 2);
 }
 
 // A refusal with its number, its name, the floats that it carries and what to do.
@@ -73,9 +84,8 @@ pub fn say_refused(r: Refusal) {
     say(b"refused ");
     say_number(number);
     say(b" ");
-    say_name(number);
+    say_reason(number as usize);
     say_carried(error::values(r));
-    say(b": ");
-    say_hint(number);
+    say_hint(number as usize);
     say(b"\n");
 }

@@ -1,11 +1,35 @@
-// The words of the command line.
-use crate::messages::say;
-use crate::messages::say_start;
-use decimals::Number;
-use text::Parsed;
+// What the words ask for.
+use crate::names::CHANNELS;
+use crate::names::CHUNK;
+use crate::names::DEGREE;
+use crate::names::FIXED;
+use crate::names::FORCE;
+use crate::names::HELP;
+use crate::names::INPUT;
+use crate::names::LOG;
+use crate::names::M;
+use crate::names::MASK;
+use crate::names::OUTPUT;
+use crate::names::PLAN;
+use crate::names::RATIO;
+use crate::names::RAW;
+use crate::names::SHORT_HELP;
+use crate::names::STATUS;
+use crate::names::TONES;
+use crate::names::VERSION;
+use crate::reading::Reading;
+use crate::slots::has;
+use crate::slots::slot_or;
+use crate::slots::start_of;
 
-// What the words ask for. `input`, `output` and `log` are the places of files among the words, 0 where
-// none was named. `next` is the place of the next word; `good` is false once a word was bad.
+// Where a file is named: the word's place, and where the name begins in it. `at` is 0 where none is
+// named, or `-`.
+pub struct Place {
+    pub at: usize,
+    pub from: usize,
+}
+
+// `good` is false where a word was bad. `seen` has the bit of each name that was given.
 pub struct Options {
     pub ratio: f64,
     pub m: f64,
@@ -14,328 +38,71 @@ pub struct Options {
     pub fixed_out: bool,
     pub channels: usize,
     pub mask: u64,
-    pub tones: u64,
-    pub input: usize,
-    pub output: usize,
-    pub log: usize,
-    pub changes: usize,
-    pub has_ratio: bool,
     pub has_mask: bool,
+    pub tones: u64,
     pub has_tones: bool,
+    pub input: Place,
+    pub output: Place,
+    pub log: Place,
+    pub plan: Place,
+    pub status: Place,
+    pub changes: usize,
+    pub raw: bool,
+    pub force: bool,
     pub help: bool,
+    pub version: bool,
     pub good: bool,
-    pub next: usize,
-}
-
-pub enum Name {
-    Ratio,
-    M,
-    Degree,
-    Chunk,
-    Fixed,
-    Channels,
-    Mask,
-    Input,
-    Output,
-    Log,
-    At,
-    Ramp,
-    Tones,
-    Help,
-    Unknown,
-}
-
-pub fn defaults() -> Options {
-    Options {
-        ratio: 1.0,
-        m: 2.0,
-        points: 8,
-        chunk: 1024,
-        fixed_out: true,
-        channels: 1,
-        mask: 1,
-        tones: 0,
-        input: 0,
-        output: 0,
-        log: 0,
-        changes: 0,
-        has_ratio: false,
-        has_mask: false,
-        has_tones: false,
-        help: false,
-        good: true,
-        next: 1,
-    }
-}
-
-fn file_name_of(word: &[u8]) -> Name {
-    if check::same(word, b"--in") {
-        return Name::Input;
-    }
-    if check::same(word, b"--out") {
-        return Name::Output;
-    }
-    if check::same(word, b"--log") {
-        return Name::Log;
-    }
-    if check::same(word, b"--at") {
-        return Name::At;
-    }
-    if check::same(word, b"--ramp") {
-        return Name::Ramp;
-    }
-    if check::same(word, b"--tones") {
-        return Name::Tones;
-    }
-    if check::same(word, b"--help") {
-        return Name::Help;
-    }
-    Name::Unknown
-}
-
-pub fn name_of(word: &[u8]) -> Name {
-    if check::same(word, b"--ratio") {
-        return Name::Ratio;
-    }
-    if check::same(word, b"--m") {
-        return Name::M;
-    }
-    if check::same(word, b"--degree") {
-        return Name::Degree;
-    }
-    if check::same(word, b"--chunk") {
-        return Name::Chunk;
-    }
-    if check::same(word, b"--fixed") {
-        return Name::Fixed;
-    }
-    if check::same(word, b"--channels") {
-        return Name::Channels;
-    }
-    if check::same(word, b"--mask") {
-        return Name::Mask;
-    }
-    file_name_of(word)
-}
-
-pub fn stopped(o: Options) -> Options {
-    let mut p = o;
-    p.good = false;
-    p
-}
-
-// The word after its name is no good: what was asked, and what stands there.
-pub fn bad(o: Options, asked: &[u8], word: &[u8]) -> Options {
-    say_start();
-    say(asked);
-    say(b", and not `");
-    say(word);
-    say(b"'\n");
-    stopped(o)
-}
-
-fn bad_number(o: Options, name: &[u8], word: &[u8]) -> Options {
-    say_start();
-    say(name);
-    bad_form(o, word)
-}
-
-fn bad_form(o: Options, word: &[u8]) -> Options {
-    say(
-        b" takes a decimal of up to 15 digits (1.25), a quotient of two whole numbers of up to 15 digits (160/147) or 16 hex digits of bits (x3ff4000000000000), and not `",
-    );
-    say(word);
-    say(b"'\n");
-    stopped(o)
-}
-
-fn bad_count(o: Options, name: &[u8], word: &[u8]) -> Options {
-    say_start();
-    say(name);
-    say(b" takes a whole number below 2^64, and not `");
-    say(word);
-    say(b"'\n");
-    stopped(o)
-}
-
-pub fn with_ratio(o: Options, word: &[u8]) -> Options {
-    match decimals::number_of(word) {
-        Number::Bad => bad_number(o, b"--ratio", word),
-        Number::Value(x) => {
-            let mut p = o;
-            p.ratio = x;
-            p.has_ratio = true;
-            p
-        }
-    }
-}
-
-pub fn with_m(o: Options, word: &[u8]) -> Options {
-    match decimals::number_of(word) {
-        Number::Bad => bad_number(o, b"--m", word),
-        Number::Value(x) => {
-            let mut p = o;
-            p.m = x;
-            p
-        }
-    }
-}
-
-// The points of a degree, 0 where the word names none.
-fn points_of(word: &[u8]) -> u64 {
-    if check::same(word, b"nearest") {
-        return 1;
-    }
-    if check::same(word, b"linear") {
-        return 2;
-    }
-    if check::same(word, b"cubic") {
-        return 4;
-    }
-    if check::same(word, b"quintic") {
-        return 6;
-    }
-    if check::same(word, b"septic") {
-        return 8;
-    }
-    0
-}
-
-pub fn with_degree(o: Options, word: &[u8]) -> Options {
-    let points = points_of(word);
-    if points == 0 {
-        return bad(
-            o,
-            b"--degree takes nearest, linear, cubic, quintic or septic",
-            word,
-        );
-    }
-    let mut p = o;
-    p.points = points;
-    p
-}
-
-pub fn with_fixed(o: Options, word: &[u8]) -> Options {
-    let fixed_out = check::same(word, b"out");
-    if !fixed_out {
-        if !check::same(word, b"in") {
-            return bad(o, b"--fixed takes in or out", word);
-        }
-    }
-    let mut p = o;
-    p.fixed_out = fixed_out;
-    p
+    pub seen: u64,
 }
 
 fn as_count(n: u64) -> usize {
     n as usize
 }
 
-pub fn with_chunk(o: Options, word: &[u8]) -> Options {
-    match text::decimal_of(word) {
-        Parsed::Bad => bad_count(o, b"--chunk", word),
-        Parsed::Number(n) => {
-            let mut p = o;
-            p.chunk = as_count(n);
-            p
-        }
+fn place_of(slots: &[u64], seen: u64, name: usize) -> Place {
+    Place {
+        at: as_count(slot_or(slots, seen, name, 0)),
+        from: as_count(start_of(slots, name)),
     }
 }
 
-pub fn with_channels(o: Options, word: &[u8]) -> Options {
-    match text::decimal_of(word) {
-        Parsed::Bad => bad_count(o, b"--channels", word),
-        Parsed::Number(n) => {
-            let mut p = o;
-            p.channels = as_count(n);
-            p
-        }
+// The points of the degrees, which have the numbers 1 to 5.
+fn points_of(degree: u64) -> u64 {
+    match degree {
+        1 => 1,
+        2 => 2,
+        3 => 4,
+        4 => 6,
+        _ => 8,
     }
 }
 
-pub fn with_mask(o: Options, word: &[u8]) -> Options {
-    match text::decimal_of(word) {
-        Parsed::Bad => bad_count(o, b"--mask", word),
-        Parsed::Number(n) => {
-            let mut p = o;
-            p.mask = n;
-            p.has_mask = true;
-            p
-        }
+// All that was read, and what holds otherwise: m 2, chunk 1024, septic, fixed out, one channel. The ratio
+// stands in its slot whether --ratio or --rates gave it.
+pub fn options_of(r: Reading, slots: &[u64]) -> Options {
+    let seen = r.seen;
+    Options {
+        ratio: text::of_bits(slot_or(slots, 1 << RATIO, RATIO, 0)),
+        m: text::of_bits(slot_or(slots, seen, M, 0x4000_0000_0000_0000)),
+        points: points_of(slot_or(slots, seen, DEGREE, 5)),
+        chunk: as_count(slot_or(slots, seen, CHUNK, 1024)),
+        fixed_out: slot_or(slots, seen, FIXED, 2) == 2,
+        channels: as_count(slot_or(slots, seen, CHANNELS, 1)),
+        mask: slot_or(slots, seen, MASK, 1),
+        has_mask: has(seen, MASK),
+        tones: slot_or(slots, seen, TONES, 0),
+        has_tones: has(seen, TONES),
+        input: place_of(slots, seen, INPUT),
+        output: place_of(slots, seen, OUTPUT),
+        log: place_of(slots, seen, LOG),
+        plan: place_of(slots, seen, PLAN),
+        status: place_of(slots, seen, STATUS),
+        changes: r.changes,
+        raw: has(seen, RAW),
+        force: has(seen, FORCE),
+        help: has(seen, HELP) | has(seen, SHORT_HELP),
+        version: has(seen, VERSION),
+        good: r.good,
+        seen,
     }
-}
-
-pub fn with_tones(o: Options, word: &[u8]) -> Options {
-    match text::decimal_of(word) {
-        Parsed::Bad => bad_count(o, b"--tones", word),
-        Parsed::Number(n) => {
-            let mut p = o;
-            p.tones = n;
-            p.has_tones = true;
-            p
-        }
-    }
-}
-
-pub fn with_input(o: Options, at: usize) -> Options {
-    let mut p = o;
-    p.input = at;
-    p
-}
-
-pub fn with_output(o: Options, at: usize) -> Options {
-    let mut p = o;
-    p.output = at;
-    p
-}
-
-pub fn with_log(o: Options, at: usize) -> Options {
-    let mut p = o;
-    p.log = at;
-    p
-}
-
-pub fn with_help(o: Options) -> Options {
-    let mut p = o;
-    p.help = true;
-    p
-}
-
-fn keep(changes: &mut [u64], at: usize, n: u64) {
-    if at < changes.len() {
-        changes[at] = n;
-    }
-}
-
-// One change more, if there is room for it: its block, the bits of its ratio, and 1 for a ramp.
-fn keep_change(o: Options, block: u64, ratio: f64, ramp: u64, changes: &mut [u64]) -> Options {
-    let k = o.changes;
-    if k >= 16 {
-        say_start();
-        say(b"more than 16 ratio changes\n");
-        return stopped(o);
-    }
-    keep(changes, 3 * k, block);
-    keep(changes, 3 * k + 1, text::bits_of(ratio));
-    keep(changes, 3 * k + 2, ramp);
-    let mut p = o;
-    p.changes = k + 1;
-    p
-}
-
-// `--at B R`, and `--ramp B R` where ramp is 1.
-pub fn with_change(
-    o: Options,
-    ramp: u64,
-    first: &[u8],
-    second: &[u8],
-    changes: &mut [u64],
-) -> Options {
-    let Parsed::Number(block) = text::decimal_of(first) else {
-        return bad_count(o, b"the block of a ratio change", first);
-    };
-    let Number::Value(ratio) = decimals::number_of(second) else {
-        return bad_number(o, b"a ratio change", second);
-    };
-    keep_change(o, block, ratio, ramp, changes)
 }

@@ -1,66 +1,31 @@
 // Reads the words of the command line one after the other.
-use crate::messages::say;
-use crate::messages::say_start;
-use crate::options::Name;
+use crate::names::AT;
+use crate::names::IDLE;
+use crate::names::LACKS_ONE;
+use crate::names::LACKS_TWO;
+use crate::names::LOG;
+use crate::names::LOG_ON_OUTPUT;
+use crate::names::NO_RATIO;
+use crate::names::NO_VALUE;
+use crate::names::RAMP;
+use crate::names::RATES;
+use crate::names::RATIO;
+use crate::names::RAW;
+use crate::names::TOO_LONG;
+use crate::names::TWICE;
+use crate::names::TWO_RATIOS;
+use crate::names::UNKNOWN;
+use crate::names::complain;
+use crate::names::complain_of;
+use crate::names::number_of;
 use crate::options::Options;
-use crate::options::defaults;
-use crate::options::name_of;
-use crate::options::stopped;
-use crate::options::with_change;
-use crate::options::with_channels;
-use crate::options::with_chunk;
-use crate::options::with_degree;
-use crate::options::with_fixed;
-use crate::options::with_help;
-use crate::options::with_input;
-use crate::options::with_log;
-use crate::options::with_m;
-use crate::options::with_mask;
-use crate::options::with_output;
-use crate::options::with_ratio;
-use crate::options::with_tones;
-
-// A name and the one word after it, which stands at the place `at`.
-fn with_word(o: Options, name: Name, at: usize, word: &[u8]) -> Options {
-    match name {
-        Name::Ratio => with_ratio(o, word),
-        Name::M => with_m(o, word),
-        Name::Degree => with_degree(o, word),
-        Name::Chunk => with_chunk(o, word),
-        Name::Fixed => with_fixed(o, word),
-        Name::Channels => with_channels(o, word),
-        Name::Mask => with_mask(o, word),
-        Name::Input => with_input(o, at),
-        Name::Output => with_output(o, at),
-        Name::Log => with_log(o, at),
-        Name::Tones => with_tones(o, word),
-        _ => o,
-    }
-}
-
-fn unknown(o: Options, word: &[u8]) -> Options {
-    say_start();
-    say(b"unknown word `");
-    say(word);
-    say(b"': --help says which there are\n");
-    stopped(o)
-}
-
-fn too_long(o: Options) -> Options {
-    say_start();
-    say(b"a word is longer than 4096 bytes\n");
-    stopped(o)
-}
-
-// Fewer words than the name at o.next wants, or a word that is too long.
-fn missing(o: Options) -> Options {
-    let mut word = io::buffer();
-    let n = os::arg(o.next, &mut word);
-    say_start();
-    say(&word[..n]);
-    say(b" wants more words after it, of at most 4096 bytes each (--help says which)\n");
-    stopped(o)
-}
+use crate::options::options_of;
+use crate::reading::Reading;
+use crate::reading::stopped;
+use crate::reading::with_two;
+use crate::reading::with_value;
+use crate::slots::has;
+use crate::slots::keep;
 
 // The place k words further. A run has no million words.
 fn past(at: usize, k: usize) -> usize {
@@ -72,77 +37,207 @@ fn past(at: usize, k: usize) -> usize {
     at
 }
 
-fn moved(o: Options, k: usize) -> Options {
-    let mut p = o;
-    p.next = past(o.next, k);
-    p
+// The name is given, and k words are read.
+fn given(r: Reading, name: usize, k: usize) -> Reading {
+    if name > 63 {
+        return r;
+    }
+    let mut s = r;
+    s.seen = r.seen | (1 << name);
+    let next = past(r.next, k);
+    s.next = next;
+    s
 }
 
-fn read_one(o: Options, name: Name) -> Options {
+fn lacking(r: Reading, name: usize, line: usize) -> Reading {
+    complain(name, line);
+    stopped(r)
+}
+
+// Whether a word can be no value: it is missing, too long, or begins with `--`.
+fn is_none(error: i32, word: &[u8]) -> bool {
+    if error != 0 {
+        return true;
+    }
+    if word.len() < 2 {
+        return false;
+    }
+    (word[0] == 45) & (word[1] == 45)
+}
+
+fn one_word(r: Reading, name: usize, at: usize, error: i32, word: &[u8]) -> Reading {
+    if is_none(error, word) {
+        return lacking(r, name, LACKS_ONE);
+    }
+    with_value(given(r, name, 2), name, at, 0, word)
+}
+
+fn read_one(r: Reading, name: usize) -> Reading {
     let mut word = io::buffer();
-    let at = past(o.next, 1);
+    let at = past(r.next, 1);
     let n = os::arg(at, &mut word);
-    if os::errno() != 0 {
-        return missing(o);
-    }
-    with_word(moved(o, 2), name, at, &word[..n])
+    let error = os::errno();
+    one_word(r, name, at, error, &word[..n])
 }
 
-fn read_two(o: Options, ramp: u64, changes: &mut [u64]) -> Options {
-    let mut first = io::buffer();
-    let n = os::arg(past(o.next, 1), &mut first);
-    let has_first = os::errno() == 0;
-    let mut second = io::buffer();
-    let k = os::arg(past(o.next, 2), &mut second);
-    let has_second = os::errno() == 0;
-    if !(has_first & has_second) {
-        return missing(o);
+fn two_words(r: Reading, name: usize, error: i32, first: &[u8], second: &[u8]) -> Reading {
+    if is_none(0, first) | is_none(error, second) {
+        return lacking(r, name, LACKS_TWO);
     }
-    with_change(moved(o, 3), ramp, &first[..n], &second[..k], changes)
+    with_two(given(r, name, 3), name, first, second)
 }
 
-// A name that is known, and the words that it takes.
-fn read_values(o: Options, name: Name, changes: &mut [u64]) -> Options {
-    match name {
-        Name::Help => with_help(moved(o, 1)),
-        Name::At => read_two(o, 0, changes),
-        Name::Ramp => read_two(o, 1, changes),
-        _ => read_one(o, name),
+// The second word, where there is a first one.
+fn read_second(r: Reading, name: usize, error: i32, first: &[u8]) -> Reading {
+    if error != 0 {
+        return lacking(r, name, LACKS_TWO);
     }
-}
-
-fn is_unknown(name: Name) -> bool {
-    match name {
-        Name::Unknown => true,
-        _ => false,
-    }
-}
-
-fn read_name(o: Options, changes: &mut [u64]) -> Options {
     let mut word = io::buffer();
-    let n = os::arg(o.next, &mut word);
-    if os::errno() != 0 {
-        return too_long(o);
-    }
-    let name = name_of(&word[..n]);
-    if is_unknown(name) {
-        return unknown(o, &word[..n]);
-    }
-    read_values(o, name, changes)
+    let n = os::arg(past(r.next, 2), &mut word);
+    let error = os::errno();
+    two_words(r, name, error, first, &word[..n])
 }
 
-fn has_more(o: Options, count: usize) -> bool {
-    o.good & (o.next < count)
+fn read_two(r: Reading, name: usize) -> Reading {
+    let mut word = io::buffer();
+    let n = os::arg(past(r.next, 1), &mut word);
+    let error = os::errno();
+    read_second(r, name, error, &word[..n])
+}
+
+// A name that stands by itself, and the words that it takes.
+fn read_values(r: Reading, name: usize) -> Reading {
+    if name >= RAW {
+        return given(r, name, 1);
+    }
+    if name >= RATES {
+        return read_two(r, name);
+    }
+    read_one(r, name)
+}
+
+// Whether a name may be given here; `joined` where a value stands behind a `=` in the same word.
+fn is_right(r: Reading, name: usize, joined: bool, word: &[u8]) -> bool {
+    if name == 0 {
+        complain_of(name, UNKNOWN, word);
+        return false;
+    }
+    if (name >= RATES) & joined {
+        complain_of(name, NO_VALUE, word);
+        return false;
+    }
+    if has(r.seen, name) & (name != AT) & (name != RAMP) {
+        complain(name, TWICE);
+        return false;
+    }
+    true
+}
+
+fn read_word(r: Reading, word: &[u8]) -> Reading {
+    let n = word.len();
+    let end = printer::bytes_of(word, bytes::scan::find(word, 0, n, 61));
+    let name = number_of(&word[..end]);
+    if !is_right(r, name, end < n, word) {
+        return stopped(r);
+    }
+    if end < n {
+        let s = given(r, name, 1);
+        return with_value(s, name, r.next, end + 1, &word[end + 1..]);
+    }
+    read_values(r, name)
+}
+
+fn read_next(r: Reading) -> Reading {
+    let mut word = io::buffer();
+    let n = os::arg(r.next, &mut word);
+    if os::errno() != 0 {
+        return lacking(r, 0, TOO_LONG);
+    }
+    let mut s = r;
+    s.name = 0;
+    read_word(s, &word[..n])
+}
+
+fn has_more(r: Reading, count: usize) -> bool {
+    r.good & (r.next < count)
 }
 
 // All the words. A run has fewer than the turns that are counted down.
-pub fn read_words(changes: &mut [u64]) -> Options {
-    let mut o = defaults();
+fn read_all(slots: &mut [u64], changes: &mut [u64]) -> Reading {
+    let mut r = Reading {
+        seen: 0,
+        next: 1,
+        changes: 0,
+        good: true,
+        name: 0,
+        first: 0,
+        second: 0,
+    };
     let count = os::arg_count();
     let mut turns: u64 = 1048576;
-    while turns > 0 && has_more(o, count) {
-        o = read_name(o, changes);
+    while turns > 0 && has_more(r, count) {
+        let k = r.changes;
+        r = read_next(r);
+        keep(r, k, slots, changes);
         turns -= 1;
     }
+    r
+}
+
+fn wide(n: u32) -> usize {
+    n as usize
+}
+
+// With --tones nothing goes but --out, --status and --force.
+fn fits_tones(seen: u64) -> bool {
+    let idle = seen & 0x3dbbe;
+    if idle == 0 {
+        return true;
+    }
+    complain(wide(u64::trailing_zeros(idle)), IDLE);
+    false
+}
+
+// A pass wants a ratio, and room for its log.
+fn fits_pass(o: Options) -> bool {
+    let seen = o.seen;
+    let log = o.log;
+    let output = o.output;
+    if !(has(seen, RATIO) | has(seen, RATES)) {
+        complain(RATIO, NO_RATIO);
+        return false;
+    }
+    if has(seen, RATIO) & has(seen, RATES) {
+        complain(RATES, TWO_RATIOS);
+        return false;
+    }
+    if has(seen, LOG) & (log.at == 0) & (output.at == 0) {
+        complain(LOG, LOG_ON_OUTPUT);
+        return false;
+    }
+    true
+}
+
+// Whether the words go together.
+fn fits(o: Options) -> bool {
+    if !o.good {
+        return false;
+    }
+    if o.help | o.version {
+        return true;
+    }
+    if o.has_tones {
+        return fits_tones(o.seen);
+    }
+    fits_pass(o)
+}
+
+// What the words ask for. What is wrong with them is told.
+pub fn read_words(changes: &mut [u64]) -> Options {
+    let mut slots = [0u64; 64];
+    let r = read_all(&mut slots, changes);
+    let mut o = options_of(r, &slots);
+    let good = fits(o);
+    o.good = good;
     o
 }

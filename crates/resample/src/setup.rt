@@ -1,24 +1,18 @@
-// The record that the words ask for, the changes of its ratio, and how large the areas of a pass are.
-use asynchro::Done;
-use asynchro::Outcome;
+// The record that the words ask for, and whether a pass of it can begin.
 use asynchro_fast::PolynomialDegree;
+use course::Pass;
+use course::next_line;
+use course::no_plan;
+use course::second_now;
 use error::Refusal;
+use options::Files;
 use options::Options;
 use options::say;
-use options::say_number;
 use options::say_refused;
 use options::say_start;
-use questions::Count;
-use samples::samples_in;
 use sizes::FixedAsync;
 use state::Made;
 use state::State;
-
-// A record after the changes before a block; `good` is false where one was refused.
-pub struct Changed {
-    pub state: State,
-    pub good: bool,
-}
 
 fn degree_of(points: u64) -> PolynomialDegree {
     match points {
@@ -83,45 +77,10 @@ fn mask_holds(mask: u64, channels: usize) -> bool {
     channel::mask_fits(mask, channels)
 }
 
-fn number_in(count: Count) -> usize {
-    match count {
-        Count::Number(n) => n,
-        Count::Refused(_) => 0,
-    }
-}
-
-// The samples of so many frames, 0 where there are too many.
-pub fn area_length(channels: usize, frames: usize) -> usize {
-    if channels > 16 {
-        return 0;
-    }
-    if frames > 65536 {
-        return 0;
-    }
-    samples_in(channels, frames)
-}
-
-fn sum(a: usize, b: usize) -> usize {
-    if a > 1048576 {
-        return 0;
-    }
-    if b > 1048576 {
-        return 0;
-    }
-    a + b
-}
-
-// The samples of the working area.
-pub fn work_length(s: State) -> usize {
-    let most = number_in(questions::input_frames_max(s));
-    let l = state::points_in(s);
-    let room = area_length(s.channels, most);
-    sum(room, area_length(s.channels, sum(l, l)))
-}
-
 // Whether the areas hold a pass, and the mask is one. It is asked before a file is opened, and the mask
 // has the number that the block run has for it.
-pub fn is_ready(s: State, len: usize, mask: u64, most: usize) -> bool {
+pub fn is_ready(s: State, mask: u64, most: usize) -> bool {
+    let len = lent::work_length(s);
     if (len == 0) | (len > most) {
         say_start();
         say(b"this pass has areas of more than 131072 samples: lower --chunk, --m or --channels\n");
@@ -135,50 +94,20 @@ pub fn is_ready(s: State, len: usize, mask: u64, most: usize) -> bool {
     true
 }
 
-// What a change left, told where it was refused.
-fn settled(outcome: Outcome, block: u64) -> Changed {
-    let state = outcome.state;
-    let answer = outcome.answer;
-    match answer {
-        Done::Accepted => Changed { state, good: true },
-        Done::Refused(r) => {
-            say_start();
-            say(b"the ratio change before block ");
-            say_number(block);
-            say(b": ");
-            say_refused(r);
-            Changed { state, good: false }
-        }
+// A pass before its first block: one frame of the input is held, and the plan stands before its first line.
+pub fn first_pass(mask: u64, files: Files, bytes: &mut [u8]) -> Pass {
+    Pass {
+        counts: tally::none_yet(),
+        mask,
+        held: true,
+        ended: false,
+        started: false,
+        first_used: 0,
+        first_index: 0.0,
+        second: second_now(),
+        going: true,
+        whole: false,
+        good: true,
+        plan: next_line(files.plan, bytes, no_plan()),
     }
-}
-
-// The change number k, if it is for this block.
-fn change(c: Changed, k: usize, block: u64, changes: &[u64]) -> Changed {
-    if !c.good {
-        return c;
-    }
-    if k >= 16 {
-        return c;
-    }
-    if 3 * k + 2 >= changes.len() {
-        return c;
-    }
-    if changes[3 * k] != block {
-        return c;
-    }
-    let ratio = text::of_bits(changes[3 * k + 1]);
-    let ramp = changes[3 * k + 2] == 1;
-    let s = c.state;
-    settled(asynchro::set_resample_ratio(s, ratio, ramp), block)
-}
-
-// The changes for a block, in the order of the words.
-pub fn all_changes(state: State, count: usize, block: u64, changes: &[u64]) -> Changed {
-    let mut c = Changed { state, good: true };
-    for k in 0..16 {
-        if k < count {
-            c = change(c, k, block, changes);
-        }
-    }
-    c
 }

@@ -88,8 +88,8 @@ fn has_more(rest: Rest) -> bool {
     rest.good & (rest.frames > 0)
 }
 
-// Writes the tones, and says how many frames of them there are.
-pub fn write_tones(frames: u64, fd: i32) {
+// Writes the tones, and says how many frames of them there are; whether all went well.
+pub fn write_tones(frames: u64, fd: i32) -> bool {
     let mut bytes = [0u8; 8192];
     let tones = first_tones();
     let mut rest = Rest {
@@ -102,15 +102,25 @@ pub fn write_tones(frames: u64, fd: i32) {
         rest = write_some(fd, &mut bytes, rest);
         turns -= 1;
     }
-    tell_written(frames, rest);
+    let good = rest.good & is_closed(fd);
+    tell_written(frames, good);
+    good
 }
 
-fn tell_written(frames: u64, rest: Rest) {
-    if !rest.good {
+// What was written last may be lost only when the file is closed.
+fn is_closed(fd: i32) -> bool {
+    if fd > 2 {
+        return libc::close(fd) == 0;
+    }
+    true
+}
+
+fn tell_written(frames: u64, good: bool) {
+    if !good {
         os::fail(b"resample: writing the tones");
     }
     say_start();
-    if !rest.good {
+    if !good {
         say(b"not all of ");
     }
     say_number(frames);

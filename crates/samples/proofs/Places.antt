@@ -59,7 +59,7 @@ pub spread-done : (channels share first : ℕ) (bs : List ℕ) (w v : List Float
 spread-done channels share first bs w v j n s e = s .is ∙ ap (λ (i : ℕ). spreadTo channels share first bs w i) e
 
 -- what is read in the area stands there
-inside : (w : List Float) (p : ℕ) (y z : Float) → p < length w → getD w p y ≡ getD w p z
+pub inside : (w : List Float) (p : ℕ) (y z : Float) → p < length w → getD w p y ≡ getD w p z
 inside [] p y z l = absurd (omega arith)
 inside (x ∷ w) zero y z l = refl
 inside (x ∷ w) (suc p) y z l = inside w p y z (omega arith)

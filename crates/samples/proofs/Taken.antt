@@ -7,11 +7,11 @@ use borrow.Author.Tests.{lt-ltb, le-ltb, le-leb, lt-leb, ltb-true, leb-true}
 use lib.Dec.{ltb, leb}
 use Rattle.samples.specs.Counts.{taken}
 
-both : (a b : Bool) → (a && b) ≡ true → (a ≡ true) × (b ≡ true)
+pub both : (a b : Bool) → (a && b) ≡ true → (a ≡ true) × (b ≡ true)
 both true b e = (refl, e)
 both false b e = (e, absurd (true≢false (sym e)))
 
-yes : (b : Bool) → not b ≡ false → b ≡ true
+pub yes : (b : Bool) → not b ≡ false → b ≡ true
 yes true h = refl
 yes false h = absurd (true≢false h)
 

@@ -20,8 +20,8 @@ mul-bytes-of c = search needs
 bytes-of-requires : tie.Need-bytes-of-requires
 bytes-of-requires c κs = search needs
 
-add-t11 : tie.Need-add-t11
-add-t11 c = search needs
+add-t12 : tie.Need-add-t12
+add-t12 c = search needs
 
 slice-reshare-prefix-write-all : tie.Need-slice-reshare-prefix-write-all
 slice-reshare-prefix-write-all c = search needs
@@ -47,7 +47,7 @@ write-piece-spec =
     gather-requires
     mul-bytes-of
     bytes-of-requires
-    add-t11
+    add-t12
     slice-reshare-prefix-write-all
     slice-aggregate-write-all
     write-all-requires

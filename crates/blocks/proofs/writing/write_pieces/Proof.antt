@@ -3,16 +3,16 @@ use mathlib.Core.Path.{_≡_}
 use Prim.Native.Nat.{_+_, _≤_}
 use lib.ListN.{length}
 use native.Mathlib.Omega.{arith}
-use Rattle.blocks.proofs.Pieces.{writes-all, writes-over}
+use Rattle.blocks.proofs.Pieces.{writes-end, writes-over}
 use borrow.Author.Needs.{needs}
 use Rattle.blocks.proofs.writing.write_pieces.Statement.{statement}
 use Rattle.blocks.proofs.writing.write_pieces.Tie as tie
 
 abbrev Inv-loop : tie.InvT-loop
-Inv-loop fd bytes₀ output channels share most w₀ turns₀ bytes w turns = (length bytes ≡ length bytes₀) × (w .samples ≤ most) × (most ≤ w .samples + turns)
+Inv-loop fd bytes₀ output channels share most first w₀ turns₀ bytes w turns = (length bytes ≡ length bytes₀) × (w .first ≡ first) × (first ≤ w .last) × (w .last ≤ most) × (most ≤ w .last + turns)
 
 abbrev μ-loop : tie.MeasureT-loop
-μ-loop fd bytes₀ output channels share most w₀ turns₀ bytes w turns = turns
+μ-loop fd bytes₀ output channels share most first w₀ turns₀ bytes w turns = turns
 
 loop-holds : tie.Need-loop-holds Inv-loop μ-loop
 loop-holds c = search needs
@@ -36,13 +36,13 @@ same-length : tie.Need-same-length Inv-loop μ-loop
 same-length c = search needs
 
 returns : tie.Need-returns Inv-loop μ-loop
-returns c = (omega arith, writes-over _ _ _ _ (c .before .before .before .loop .inv .1) (c .before .has-more .ensures) (c .if1 .left))
+returns c = writes-end _ _ _ _ _ (c .before .before .before .loop .inv .1) (c .before .before .before .loop .inv .2) (c .before .before .before .loop .inv .3) (writes-over _ _ _ _ (c .before .has-more .ensures) (c .if1 .left))
 
 same-length-2 : tie.Need-same-length-2 Inv-loop μ-loop
 same-length-2 c = search needs
 
 returns-2 : tie.Need-returns-2 Inv-loop μ-loop
-returns-2 c = (omega arith, writes-all _ _ _ _ (c .before .loop .inv .1) (c .before .loop .inv .2) (omega arith))
+returns-2 c = writes-end _ _ _ _ _ (c .before .loop .inv .1) (c .before .loop .inv .2) (c .before .loop .inv .3) (λ g. omega arith)
 
 pub write-pieces-spec : {M : Type 1} → statement M
 write-pieces-spec =

@@ -55,26 +55,26 @@ returns-3 c = word-decimal _ _ (c .before .before .before .before .before .befor
 find-requires-2 : tie.Need-find-requires-2
 find-requires-2 c κs = search needs
 
-slice-aggregate-quotient : tie.Need-slice-aggregate-quotient
-slice-aggregate-quotient c = sym (length-take-le _ _ (omega arith))
+slice-aggregate-quotient-of : tie.Need-slice-aggregate-quotient-of
+slice-aggregate-quotient-of c = sym (length-take-le _ _ (omega arith))
 
-add-quotient : tie.Need-add-quotient
-add-quotient c = search needs
+add-quotient-of : tie.Need-add-quotient-of
+add-quotient-of c = search needs
 
-sub-quotient : tie.Need-sub-quotient
-sub-quotient c = search needs
+sub-quotient-of : tie.Need-sub-quotient-of
+sub-quotient-of c = search needs
 
-part-quotient-start : tie.Need-part-quotient-start
-part-quotient-start c = search needs
+part-quotient-of-start : tie.Need-part-quotient-of-start
+part-quotient-of-start c = search needs
 
-part-quotient-end : tie.Need-part-quotient-end
-part-quotient-end c = search needs
+part-quotient-of-end : tie.Need-part-quotient-of-end
+part-quotient-of-end c = search needs
 
-quotient-requires : tie.Need-quotient-requires
-quotient-requires c κs = search needs
+quotient-of-requires : tie.Need-quotient-of-requires
+quotient-of-requires c κs = search needs
 
 returns-4 : tie.Need-returns-4
-returns-4 c = word-quotient _ _ (c .before .before .before .before .before .before .before .before .before .if1 .left) (c .before .before .before .before .before .before .before .if2 .left) _ (c .before .before .before .before .before .before .find .ensures .0) (c .before .before .before .before .before .if3 .left) _ (c .before .before .before .before .find2 .ensures .0) (c .before .before .before .if4 .taken) (c .quotient .ensures)
+returns-4 c = word-quotient _ _ (c .before .before .before .before .before .before .before .before .before .if1 .left) (c .before .before .before .before .before .before .before .if2 .left) _ (c .before .before .before .before .before .before .find .ensures .0) (c .before .before .before .before .before .if3 .left) _ (c .before .before .before .before .find2 .ensures .0) (c .before .before .before .if4 .taken) (c .quotient-of .ensures)
 
 whole-requires : tie.Need-whole-requires
 whole-requires c κs = search needs
@@ -102,12 +102,12 @@ number-of-spec =
     decimal-requires
     returns-3
     find-requires-2
-    slice-aggregate-quotient
-    add-quotient
-    sub-quotient
-    part-quotient-start
-    part-quotient-end
-    quotient-requires
+    slice-aggregate-quotient-of
+    add-quotient-of
+    sub-quotient-of
+    part-quotient-of-start
+    part-quotient-of-end
+    quotient-of-requires
     returns-4
     whole-requires
     returns-5)

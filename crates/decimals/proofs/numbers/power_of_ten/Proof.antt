@@ -1,6 +1,6 @@
 -- `decimals::numbers::power_of_ten` meets its contract: each turn is times ten. Assumes nothing.
 use mathlib.Core.Path.{_≡_, refl, ap, _∙_}
-use Prim.Native.Nat.{_≤_, _-_, _^_}
+use Prim.Native.Nat.{_+_, _≤_, _-_, _^_}
 use native.Mathlib.Omega.{arith}
 use Rattle.decimals.proofs.Words.{ten-next, ten-small}
 use borrow.Author.Needs.{needs}
@@ -17,7 +17,7 @@ loop-holds : tie.Need-loop-holds Inv-loop μ-loop
 loop-holds c = (omega arith, refl)
 
 mul-power : tie.Need-mul-power Inv-loop μ-loop
-mul-power c = omega (arith, ten-small (c .before .loop .-i) (omega arith))
+mul-power c = omega (arith, ten-next _ _ (c .before .loop .inv .1), ten-small (c .before .loop .-i + 1) (omega arith))
 
 add--i : tie.Need-add--i Inv-loop μ-loop
 add--i c = search needs

@@ -1,18 +1,15 @@
--- `resample::run::turns` is safe and ends: its turns are counted down. Assumes nothing.
+-- `resample::run::turns` is safe and ends. Assumes nothing.
+use borrow.Author.Needs.{needs}
 use mathlib.Core.Path.{_≡_}
 use lib.ListN.{length}
-use borrow.Author.Needs.{needs}
 use Rattle.resample.proofs.run.turns.Statement.{statement}
 use Rattle.resample.proofs.run.turns.Tie as tie
 
 abbrev Inv-loop : tie.InvT-loop
-Inv-loop mask count files changes input₀ output₀ work₀ run₀ left₀ input output work run left = (length input ≡ length input₀) × (length output ≡ length output₀) × (length work ≡ length work₀)
+Inv-loop o files changes bytes₀ input₀ held₀ output₀ work₀ run₀ left₀ bytes input held output work run left = (length bytes ≡ length bytes₀) × (length input ≡ length input₀) × (length held ≡ length held₀) × (length output ≡ length output₀) × (length work ≡ length work₀)
 
 abbrev μ-loop : tie.MeasureT-loop
-μ-loop mask count files changes input₀ output₀ work₀ run₀ left₀ input output work run left = left
-
-none-yet-requires : tie.Need-none-yet-requires Inv-loop μ-loop
-none-yet-requires c κs = search needs
+μ-loop o files changes bytes₀ input₀ held₀ output₀ work₀ run₀ left₀ bytes input held output work run left = left
 
 loop-holds : tie.Need-loop-holds Inv-loop μ-loop
 loop-holds c = search needs
@@ -41,6 +38,12 @@ same-length-2 c = search needs
 same-length-3 : tie.Need-same-length-3 Inv-loop μ-loop
 same-length-3 c = search needs
 
+same-length-4 : tie.Need-same-length-4 Inv-loop μ-loop
+same-length-4 c = search needs
+
+same-length-5 : tie.Need-same-length-5 Inv-loop μ-loop
+same-length-5 c = search needs
+
 returns : tie.Need-returns Inv-loop μ-loop
 returns c = search needs
 
@@ -50,7 +53,6 @@ turns-spec =
     (tie.spec
     Inv-loop
     μ-loop
-    none-yet-requires
     loop-holds
     is-going-requires
     turn-requires
@@ -60,4 +62,6 @@ turns-spec =
     same-length
     same-length-2
     same-length-3
+    same-length-4
+    same-length-5
     returns)

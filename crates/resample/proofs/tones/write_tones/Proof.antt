@@ -1,7 +1,7 @@
--- `resample::tones::write_tones` is safe and ends: its turns are counted down. Assumes nothing.
+-- `resample::tones::write_tones` is safe and ends. Assumes nothing.
+use borrow.Author.Needs.{needs}
 use mathlib.Core.Path.{_≡_}
 use lib.ListN.{length}
-use borrow.Author.Needs.{needs}
 use Rattle.resample.proofs.tones.write_tones.Statement.{statement}
 use Rattle.resample.proofs.tones.write_tones.Tie as tie
 
@@ -35,6 +35,9 @@ loop-less c = search needs
 loop-again : tie.Need-loop-again Inv-loop μ-loop
 loop-again c = search needs
 
+is-closed-requires : tie.Need-is-closed-requires Inv-loop μ-loop
+is-closed-requires c κs = search needs
+
 tell-written-requires : tie.Need-tell-written-requires Inv-loop μ-loop
 tell-written-requires c κs = search needs
 
@@ -55,5 +58,6 @@ write-tones-spec =
     sub-turns
     loop-less
     loop-again
+    is-closed-requires
     tell-written-requires
     returns)

@@ -1,0 +1,3 @@
+-- Lines with places for numbers: proofs.
+mod Marks
+mod Turns

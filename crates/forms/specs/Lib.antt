@@ -1,0 +1,2 @@
+-- Lines with places for numbers. Definitions only.
+pub mod Forms

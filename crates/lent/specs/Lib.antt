@@ -1,0 +1,2 @@
+-- A block on the front parts of larger areas. Definitions only.
+pub mod Lent

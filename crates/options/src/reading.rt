@@ -1,0 +1,163 @@
+// A name and the words behind it.
+use crate::lists::number_in;
+use crate::names::AT;
+use crate::names::BAD_COUNT;
+use crate::names::BAD_DEGREE;
+use crate::names::BAD_FILE;
+use crate::names::BAD_NUMBER;
+use crate::names::BAD_RATES;
+use crate::names::BAD_SIDE;
+use crate::names::DEGREE;
+use crate::names::FIXED;
+use crate::names::LOG;
+use crate::names::M;
+use crate::names::RATES;
+use crate::names::RATIO;
+use crate::names::TONES;
+use crate::names::TOO_MANY;
+use crate::names::complain;
+use crate::names::complain_of;
+use decimals::Number;
+use text::Parsed;
+
+// What was read so far: the bit of each name that was given, the place of the next word, and how many
+// changes of the ratio. `good` is false once a word was bad. The last name, or 0, and what stands behind
+// it: a count, the bits of a float, the number of a choice; the place of a file's name and where it
+// begins in the word; a block and the bits of a ratio.
+pub struct Reading {
+    pub seen: u64,
+    pub next: usize,
+    pub changes: usize,
+    pub good: bool,
+    pub name: usize,
+    pub first: u64,
+    pub second: u64,
+}
+
+pub fn stopped(r: Reading) -> Reading {
+    let mut s = r;
+    s.name = 0;
+    s.good = false;
+    s
+}
+
+// The word behind a name is no good.
+fn bad(r: Reading, name: usize, line: usize, word: &[u8]) -> Reading {
+    complain_of(name, line, word);
+    stopped(r)
+}
+
+fn got(r: Reading, name: usize, first: u64, second: u64) -> Reading {
+    let mut s = r;
+    s.name = name;
+    s.first = first;
+    s.second = second;
+    s
+}
+
+fn with_number(r: Reading, name: usize, word: &[u8]) -> Reading {
+    let Number::Value(x) = decimals::number_of(word) else {
+        return bad(r, name, BAD_NUMBER, word);
+    };
+    got(r, name, text::bits_of(x), 0)
+}
+
+fn with_count(r: Reading, name: usize, word: &[u8]) -> Reading {
+    let Parsed::Number(n) = text::decimal_of(word) else {
+        return bad(r, name, BAD_COUNT, word);
+    };
+    got(r, name, n, 0)
+}
+
+// The number of a choice, 0 for none.
+fn choice_of(name: usize, word: &[u8]) -> usize {
+    if name == DEGREE {
+        return number_in(b"nearest linear cubic quintic septic ", 32, word);
+    }
+    number_in(b"in out ", 32, word)
+}
+
+// The degree or the fixed side.
+fn with_choice(r: Reading, name: usize, word: &[u8]) -> Reading {
+    let n = choice_of(name, word);
+    if n > 0 {
+        return got(r, name, n as u64, 0);
+    }
+    if name == DEGREE {
+        return bad(r, name, BAD_DEGREE, word);
+    }
+    bad(r, name, BAD_SIDE, word)
+}
+
+fn is_dash(word: &[u8]) -> bool {
+    if word.len() != 1 {
+        return false;
+    }
+    word[0] == 45
+}
+
+// A file's name, which begins at `from` in the word at the place `at`. `-` is a standard stream, and
+// leaves the place 0; the plan and the status have none.
+fn with_file(r: Reading, name: usize, at: usize, from: usize, word: &[u8]) -> Reading {
+    if !is_dash(word) {
+        return got(r, name, at as u64, from as u64);
+    }
+    if name > LOG {
+        return bad(r, name, BAD_FILE, word);
+    }
+    got(r, name, 0, 0)
+}
+
+// A name with one word behind it.
+pub fn with_value(r: Reading, name: usize, at: usize, from: usize, word: &[u8]) -> Reading {
+    if name <= M {
+        return with_number(r, name, word);
+    }
+    if name <= TONES {
+        return with_count(r, name, word);
+    }
+    if name <= FIXED {
+        return with_choice(r, name, word);
+    }
+    with_file(r, name, at, from, word)
+}
+
+// `--rates IN OUT`.
+fn with_rates(r: Reading, input: &[u8], out: &[u8]) -> Reading {
+    let Number::Value(x) = decimals::quotient_of(out, input) else {
+        complain(RATES, BAD_RATES);
+        return stopped(r);
+    };
+    got(r, RATIO, text::bits_of(x), 0)
+}
+
+// One change more, if there is room for it.
+fn with_room(r: Reading, name: usize, block: u64, ratio: f64) -> Reading {
+    let k = r.changes;
+    if k >= 16 {
+        complain(name, TOO_MANY);
+        return stopped(r);
+    }
+    let mut s = got(r, name, block, text::bits_of(ratio));
+    s.changes = k + 1;
+    s
+}
+
+// `--at B R` and `--ramp B R`.
+fn with_change(r: Reading, name: usize, first: &[u8], second: &[u8]) -> Reading {
+    let Parsed::Number(block) = text::decimal_of(first) else {
+        return bad(r, name, BAD_COUNT, first);
+    };
+    let Number::Value(ratio) = decimals::number_of(second) else {
+        return bad(r, name, BAD_NUMBER, second);
+    };
+    with_room(r, name, block, ratio)
+}
+
+// A name with two words behind it.
+pub fn with_two(r: Reading, name: usize, first: &[u8], second: &[u8]) -> Reading {
+    if name < AT {
+        return with_rates(r, first, second);
+    }
+    with_change(r, name, first, second)
+}

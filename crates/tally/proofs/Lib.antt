@@ -1,0 +1,2 @@
+-- What a pass has used and made: proofs.
+mod Sums

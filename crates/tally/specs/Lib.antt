@@ -1,0 +1,2 @@
+-- What a pass has used and made, and its bound. Definitions only.
+pub mod Tally

@@ -1,0 +1,3 @@
+-- A double's decimal. Definitions only.
+pub mod Rounded
+pub mod Texts
