@@ -197,7 +197,8 @@ fn put_given(out: &mut [u8], at: usize, given: Given) -> usize {
     }
 }
 
-// The whole answer to a line, at the start of the buffer; how many bytes it has.
+// The whole answer to a line, at the start of the buffer; how many bytes it has, 0 where there is no
+// line.
 pub fn put_answer(out: &mut [u8], change: Change, work: &[f64], output: &[f64]) -> usize {
     let kept = change.kept;
     let said = change.said;
@@ -205,6 +206,7 @@ pub fn put_answer(out: &mut [u8], change: Change, work: &[f64], output: &[f64]) 
     let len = kept.len;
     let at = put_head(out, 0, said);
     match said {
+        Said::Over => 0,
         Said::Bad => at,
         Said::Refused(r) => put_refusal(out, at, r),
         Said::Kept(shown) => put_shown(out, at, shown, state, work, len, output),

@@ -7,6 +7,8 @@ use process::Sizes;
 use questions::Count;
 
 pub enum Said {
+    // There is no line any more, and no answer.
+    Over,
     // The line can't be read.
     Bad,
     Refused(Refusal),

@@ -76,10 +76,17 @@ fn tell_totals(p: Pass, files: Files) -> bool {
     let c = p.counts;
     let units = tally::bound(c);
     let bound = float_of(units) / 70368744177664.0;
-    let numbers = [c.made, c.blocks, units, text::bits_of(bound)];
+    let numbers = [
+        c.given,
+        c.written,
+        c.made,
+        c.blocks,
+        units,
+        text::bits_of(bound),
+    ];
     tell(
         files,
-        b"N # B #: the stored position is at most #/2^46 of a sample, which is $, from the exact one (proved)\n",
+        b"# frames in, # frames out, N # B #: the stored position is at most #/2^46 of a sample, which is $, from the exact one (proved)\n",
         &numbers,
     )
 }

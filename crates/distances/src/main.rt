@@ -11,8 +11,5 @@ fn main() {
     let input = [0.0; 65536];
     let mut output = [0.0; 65536];
     let mut work = [0.0; 65552];
-    passes::first(&input, &mut output, &mut work);
-    passes::second(&input, &mut output, &mut work);
-    passes::third(&input, &mut output, &mut work);
-    passes::fourth(&input, &mut output, &mut work);
+    passes::all(&input, &mut output, &mut work);
 }

@@ -111,42 +111,59 @@ fn started(
     crate::report::print(number, a);
 }
 
-fn pass(number: u64, made: Made, blocks: u64, input: &[f64], output: &mut [f64], work: &mut [f64]) {
-    match made {
-        Made::Ready(s) => started(number, s, blocks, input, output, work),
+// The worst input that a search has found: one block with a ramp.
+fn first() -> Made {
+    let r = text::of_bits(0x3f70_1010_1010_0fd0);
+    let m = text::of_bits(0x3fff_c03f_f584_0cbc);
+    let degree = PolynomialDegree::Nearest;
+    asynchro::new_poly(r, m, degree, 65536, 1, FixedAsync::Input)
+}
+
+// An ordinary conversion, 48,000 to 44,100 a second.
+fn second() -> Made {
+    let degree = PolynomialDegree::Linear;
+    asynchro::new_poly(44100.0 / 48000.0, 1.1, degree, 1024, 1, FixedAsync::Output)
+}
+
+// Ramps up and down.
+fn third() -> Made {
+    let degree = PolynomialDegree::Cubic;
+    asynchro::new_poly(48000.0 / 44100.0, 2.0, degree, 1024, 1, FixedAsync::Input)
+}
+
+// Clock steering.
+fn fourth() -> Made {
+    let degree = PolynomialDegree::Septic;
+    asynchro::new_poly(160.0 / 147.0, 1.05, degree, 441, 1, FixedAsync::Output)
+}
+
+fn made(number: u64) -> Made {
+    match number {
+        1 => first(),
+        2 => second(),
+        3 => third(),
+        _ => fourth(),
+    }
+}
+
+fn blocks_of(number: u64) -> u64 {
+    match number {
+        1 => 1,
+        2 => 200,
+        _ => 100,
+    }
+}
+
+fn pass(number: u64, input: &[f64], output: &mut [f64], work: &mut [f64]) {
+    match made(number) {
+        Made::Ready(s) => started(number, s, blocks_of(number), input, output, work),
         Made::Refused(_) => {}
     }
 }
 
-// The worst input that a search has found: one block with a ramp.
-pub fn first(input: &[f64], output: &mut [f64], work: &mut [f64]) {
-    let r = text::of_bits(0x3f70_1010_1010_0fd0);
-    let m = text::of_bits(0x3fff_c03f_f584_0cbc);
-    let degree = PolynomialDegree::Nearest;
-    let made = asynchro::new_poly(r, m, degree, 65536, 1, FixedAsync::Input);
-    pass(1, made, 1, input, output, work);
-}
-
-// An ordinary conversion, 48,000 to 44,100 a second.
-pub fn second(input: &[f64], output: &mut [f64], work: &mut [f64]) {
-    let r = 44100.0 / 48000.0;
-    let degree = PolynomialDegree::Linear;
-    let made = asynchro::new_poly(r, 1.1, degree, 1024, 1, FixedAsync::Output);
-    pass(2, made, 200, input, output, work);
-}
-
-// Ramps up and down.
-pub fn third(input: &[f64], output: &mut [f64], work: &mut [f64]) {
-    let r = 48000.0 / 44100.0;
-    let degree = PolynomialDegree::Cubic;
-    let made = asynchro::new_poly(r, 2.0, degree, 1024, 1, FixedAsync::Input);
-    pass(3, made, 100, input, output, work);
-}
-
-// Clock steering.
-pub fn fourth(input: &[f64], output: &mut [f64], work: &mut [f64]) {
-    let r = 160.0 / 147.0;
-    let degree = PolynomialDegree::Septic;
-    let made = asynchro::new_poly(r, 1.05, degree, 441, 1, FixedAsync::Output);
-    pass(4, made, 100, input, output, work);
+pub fn all(input: &[f64], output: &mut [f64], work: &mut [f64]) {
+    pass(1, input, output, work);
+    pass(2, input, output, work);
+    pass(3, input, output, work);
+    pass(4, input, output, work);
 }

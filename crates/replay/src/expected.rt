@@ -1,9 +1,6 @@
 // The stored answer to a line, read byte by byte and compared with the port's.
 use script::reader::Input;
-use script::reader::Next;
-use script::reader::filled;
-use script::reader::look;
-use script::reader::passed;
+use script::reader::read_byte;
 
 // So many bytes were read after the mark, all of them as in the port's answer where `same` is true.
 pub struct Compared {
@@ -25,25 +22,15 @@ fn further(at: usize) -> usize {
     if at < usize::MAX { at + 1 } else { at }
 }
 
-// The byte that stands next, and 10 at the end of the line.
-fn byte_of(next: Next) -> u8 {
-    match next {
-        Next::Byte(b) => b,
-        Next::Space => 32,
-        Next::End => 10,
-    }
-}
-
 // One byte more. At the line's end the port's answer must have ended too.
 fn step(buf: &mut [u8], c: Compared, answer: &[u8]) -> Compared {
     let before = c.input;
     let at = c.at;
-    let input = filled(buf, before);
-    let byte = byte_of(look(buf, input));
-    let after = passed(input);
+    let input = read_byte(buf, before);
+    let byte = input.byte;
     if byte == 10 {
         return Compared {
-            input: after,
+            input,
             at,
             of_crate: c.of_crate,
             same: c.same & (at == answer.len()),
@@ -51,7 +38,7 @@ fn step(buf: &mut [u8], c: Compared, answer: &[u8]) -> Compared {
         };
     }
     Compared {
-        input: after,
+        input,
         at: further(at),
         of_crate: c.of_crate,
         same: c.same & holds(answer, at, byte),
@@ -61,11 +48,10 @@ fn step(buf: &mut [u8], c: Compared, answer: &[u8]) -> Compared {
 
 // The mark that a stored answer starts with: 61 is `=`. A line with neither mark holds no answer.
 fn marked(buf: &mut [u8], before: Input) -> Compared {
-    let input = filled(buf, before);
-    let mark = byte_of(look(buf, input));
-    let after = passed(input);
+    let input = read_byte(buf, before);
+    let mark = input.byte;
     Compared {
-        input: after,
+        input,
         at: 0,
         of_crate: mark == 61,
         same: (mark == 61) | (mark == 58),

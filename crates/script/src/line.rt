@@ -1,23 +1,20 @@
 // One line of the call script: its command, and the numbers of its other words.
 use crate::reader::Input;
-use crate::reader::Reading;
-use crate::reader::filled;
-use crate::reader::is_over;
+use crate::reader::Word;
 use crate::reader::read_word;
 use crate::words::Command;
-use crate::words::Kind;
 use crate::words::command_of;
-use crate::words::is_end;
-use crate::words::is_output;
-use crate::words::kind_of;
+use crate::words::kinds_of;
 use crate::words::value_of;
 use text::Parsed;
 
-// A line that is being read: `count` words after the command, all of them right where `good` is true.
-// `more` says that another word follows, and `over` that the input had no line any more.
+// A line that is being read: the name of its command, the kinds of the words that are still to come,
+// and `count` words after the command, all of them right where `good` is true. `more` says that another
+// word follows, and `over` that the input had no line any more.
 pub struct Line {
     pub input: Input,
-    pub command: Command,
+    pub name: u64,
+    pub kinds: u64,
     pub count: usize,
     pub good: bool,
     pub more: bool,
@@ -45,21 +42,24 @@ fn keep(values: &mut [u64], k: usize, number: Parsed) -> bool {
     }
 }
 
-// Reads a word; the samples of a block's output go to an area of their own.
-fn read_as(
-    kind: Kind,
-    buf: &mut [u8],
-    input: &mut [f64],
-    output: &mut [f64],
-    from: Input,
-) -> Reading {
-    if is_output(kind) {
-        return read_word(buf, output, from);
+// The line with one word more.
+fn with(line: Line, values: &mut [u64], word: Word) -> Line {
+    let count = line.count;
+    let kinds = line.kinds;
+    let kept = keep(values, count, value_of(kinds % 16, word));
+    let input = word.input;
+    Line {
+        input,
+        name: line.name,
+        kinds: kinds / 16,
+        count: one_more(count),
+        good: line.good & kept,
+        more: input.byte == 32,
+        over: line.over,
     }
-    read_word(buf, input, from)
 }
 
-// One word more.
+// One word more; the samples of a block's output go to an area of their own.
 fn read_next(
     line: Line,
     buf: &mut [u8],
@@ -67,21 +67,25 @@ fn read_next(
     input: &mut [f64],
     output: &mut [f64],
 ) -> Line {
-    let command = line.command;
     let from = line.input;
-    let count = line.count;
-    let kind = kind_of(command, count);
-    let reading = read_as(kind, buf, input, output, from);
-    let word = reading.word;
-    let then = reading.input;
-    let kept = keep(values, count, value_of(kind, word));
+    if line.kinds % 16 == 9 {
+        return with(line, values, read_word(buf, output, from));
+    }
+    with(line, values, read_word(buf, input, from))
+}
+
+// The line after its first word. It is none where that is empty and nothing can follow.
+fn begun(word: Word) -> Line {
+    let input = word.input;
+    let name = word.name;
     Line {
-        input: then,
-        command,
-        count: one_more(count),
-        good: line.good & kept,
-        more: reading.more,
-        over: line.over,
+        input,
+        name,
+        kinds: kinds_of(name),
+        count: 0,
+        good: true,
+        more: input.byte == 32,
+        over: (name == 1) & !input.open,
     }
 }
 
@@ -93,19 +97,7 @@ pub fn read_line(
     input: &mut [f64],
     output: &mut [f64],
 ) -> Line {
-    let from = filled(buf, before);
-    let reading = read_word(buf, input, from);
-    let word = reading.word;
-    let then = reading.input;
-    let command = command_of(word.name);
-    let mut line = Line {
-        input: then,
-        command,
-        count: 0,
-        good: true,
-        more: reading.more,
-        over: is_over(from),
-    };
+    let mut line = begun(read_word(buf, input, before));
     let mut more = line.more;
     let mut turns = u64::MAX;
     while turns > 0 && more {
@@ -118,9 +110,11 @@ pub fn read_line(
 
 // The command of a line that is right, with each word that it takes and none besides.
 pub fn command_in(line: Line) -> Command {
-    let command = line.command;
-    if line.good & is_end(kind_of(command, line.count)) {
-        return command;
+    if line.over {
+        return Command::Over;
+    }
+    if line.good & (line.kinds == 0) {
+        return command_of(line.name);
     }
     Command::Unknown
 }

@@ -3,36 +3,22 @@ use text::Area;
 use text::Run;
 
 // The bytes of the buffer from `at` to `end` are still to be read; `open` says that there may be more
-// behind them.
+// behind them. `byte` was read last, and is 10 at the end of the input.
 pub struct Input {
     pub at: usize,
     pub end: usize,
     pub open: bool,
+    pub byte: u8,
 }
 
-// What stands next in the input: a byte of a word, the space behind a word, or the end of the line,
-// which is a newline or the end of the input.
-pub enum Next {
-    Byte(u8),
-    Space,
-    End,
-}
-
-// What a word has come to, as each thing that a word can be. A name of up to seven bytes is a number
-// with a 1 before its bytes; that of a longer word is 0.
+// What a word has come to, as each thing that a word can be, and the input behind it. A name of up to
+// seven bytes is a number with a 1 before its bytes; that of a longer word is 0.
 pub struct Word {
+    pub input: Input,
     pub name: u64,
     pub whole: Run,
     pub bits: Run,
     pub area: Area,
-}
-
-// A word that is being read. At its end `going` is false, and `more` says that a space ended it.
-pub struct Reading {
-    pub input: Input,
-    pub word: Word,
-    pub going: bool,
-    pub more: bool,
 }
 
 pub fn start() -> Input {
@@ -40,11 +26,12 @@ pub fn start() -> Input {
         at: 0,
         end: 0,
         open: true,
+        byte: 10,
     }
 }
 
 // Sees to it that there is a byte to look at, unless the input is over.
-pub fn filled(buf: &mut [u8], input: Input) -> Input {
+fn filled(buf: &mut [u8], input: Input) -> Input {
     if input.at < input.end {
         return input;
     }
@@ -57,61 +44,39 @@ pub fn filled(buf: &mut [u8], input: Input) -> Input {
         at: 0,
         end: n,
         open: n > 0,
+        byte: input.byte,
     }
 }
 
-pub fn is_over(input: Input) -> bool {
-    input.end <= input.at
-}
-
-fn next_of(byte: u8) -> Next {
-    match byte {
-        32 => Next::Space,
-        10 => Next::End,
-        _ => Next::Byte(byte),
-    }
-}
-
-pub fn look(buf: &[u8], input: Input) -> Next {
+// One byte further.
+fn passed(buf: &[u8], input: Input) -> Input {
     let at = input.at;
+    let mut next = input;
+    next.byte = 10;
     if at < input.end {
         if at < buf.len() {
-            return next_of(buf[at]);
+            next.at = at + 1;
+            next.byte = buf[at];
         }
     }
-    Next::End
+    next
 }
 
-fn is_byte(next: Next) -> bool {
-    match next {
-        Next::Byte(_) => true,
-        _ => false,
-    }
+// Reads a byte.
+pub fn read_byte(buf: &mut [u8], input: Input) -> Input {
+    let here = filled(buf, input);
+    passed(buf, here)
 }
 
-fn is_space(next: Next) -> bool {
-    match next {
-        Next::Space => true,
-        _ => false,
-    }
+// A space or the end of the line, which is a newline or the end of the input, stands behind a word.
+fn ends_word(byte: u8) -> bool {
+    (byte == 32) | (byte == 10)
 }
 
-// One byte further, unless the input is over.
-pub fn passed(input: Input) -> Input {
-    let at = input.at;
-    if at < input.end {
-        return Input {
-            at: at + 1,
-            end: input.end,
-            open: input.open,
-        };
-    }
-    input
-}
-
-fn no_word() -> Word {
+fn no_word(input: Input) -> Word {
     let none = text::no_digits();
     Word {
+        input,
         name: 1,
         whole: none,
         bits: none,
@@ -131,7 +96,8 @@ fn name_step(name: u64, byte: u8) -> u64 {
 }
 
 // One byte more of a word. Its samples, if it is an area, go to the area that is lent.
-fn word_step(area: &mut [f64], word: Word, byte: u8) -> Word {
+fn word_step(area: &mut [f64], word: Word, input: Input) -> Word {
+    let byte = input.byte;
     let whole = word.whole;
     let bits = word.bits;
     let read = word.area;
@@ -139,6 +105,7 @@ fn word_step(area: &mut [f64], word: Word, byte: u8) -> Word {
     let bits_then = text::hex_step(bits, byte);
     let area_then = text::area_step(area, read, byte);
     Word {
+        input,
         name: name_step(word.name, byte),
         whole: whole_then,
         bits: bits_then,
@@ -146,44 +113,32 @@ fn word_step(area: &mut [f64], word: Word, byte: u8) -> Word {
     }
 }
 
-fn word_next(area: &mut [f64], word: Word, next: Next) -> Word {
-    match next {
-        Next::Byte(b) => word_step(area, word, b),
-        _ => word,
+// One byte more, which may end the word.
+fn word_next(buf: &mut [u8], area: &mut [f64], word: Word) -> Word {
+    let before = word.input;
+    let input = read_byte(buf, before);
+    if ends_word(input.byte) {
+        let mut then = word;
+        then.input = input;
+        return then;
     }
+    word_step(area, word, input)
 }
 
-// One byte more, which may end the word.
-fn read_byte(buf: &mut [u8], area: &mut [f64], reading: Reading) -> Reading {
-    let word = reading.word;
-    let before = reading.input;
-    let input = filled(buf, before);
-    let next = look(buf, input);
-    let then = word_next(area, word, next);
-    let after = passed(input);
-    Reading {
-        input: after,
-        word: then,
-        going: is_byte(next),
-        more: is_space(next),
-    }
+fn is_going(word: Word) -> bool {
+    let input = word.input;
+    !ends_word(input.byte)
 }
 
 // Nothing says that a word ends, so the turns are counted down from a number that no run uses up.
-pub fn read_word(buf: &mut [u8], area: &mut [f64], input: Input) -> Reading {
-    let word = no_word();
-    let mut reading = Reading {
-        input,
-        word,
-        going: true,
-        more: false,
-    };
+pub fn read_word(buf: &mut [u8], area: &mut [f64], input: Input) -> Word {
+    let mut word = no_word(input);
     let mut going = true;
     let mut turns = u64::MAX;
     while turns > 0 && going {
-        reading = read_byte(buf, area, reading);
-        going = reading.going;
+        word = word_next(buf, area, word);
+        going = is_going(word);
         turns -= 1;
     }
-    reading
+    word
 }

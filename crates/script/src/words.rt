@@ -22,30 +22,10 @@ pub enum Command {
     WCubic,
     Near,
     Cutoff,
+    // A line that can't be read.
     Unknown,
-}
-
-// What a word after the command is.
-pub enum Kind {
-    // The 16 digits of a float.
-    Bits,
-    // A whole number.
-    Whole,
-    // L: 1, 2, 4, 6 or 8.
-    Points,
-    // `in` or `out`, as 0 or 1.
-    Side,
-    // `0` or `1`.
-    Flag,
-    // A number of grid points, 1 to 4.
-    Near,
-    // A window, by its place in the source.
-    Window,
-    // An area; the output of a block is kept apart.
-    Area,
-    Output,
-    // No word stands here.
-    End,
+    // There is no line any more.
+    Over,
 }
 
 // A name is its bytes after a 1.
@@ -74,195 +54,100 @@ pub fn command_of(name: u64) -> Command {
     }
 }
 
-// new r m L chunk channels in|out
-fn kind_in_new(k: usize) -> Kind {
-    match k {
-        0 | 1 => Kind::Bits,
-        2 => Kind::Points,
-        3 | 4 => Kind::Whole,
-        5 => Kind::Side,
-        _ => Kind::End,
-    }
-}
-
-// rec L in|out channels chunk construction-chunk original current target m index fill needed-in
-// needed-out
-fn kind_in_rec(k: usize) -> Kind {
-    match k {
-        0 => Kind::Points,
-        1 => Kind::Side,
-        2 | 3 | 4 => Kind::Whole,
-        5 | 6 | 7 | 8 | 9 => Kind::Bits,
-        10 | 11 | 12 => Kind::Whole,
-        _ => Kind::End,
-    }
-}
-
-// block count mask IN OUT
-fn kind_in_block(k: usize) -> Kind {
-    match k {
-        0 | 1 => Kind::Whole,
-        2 => Kind::Area,
-        3 => Kind::Output,
-        _ => Kind::End,
-    }
-}
-
-// abs r 0|1
-fn kind_in_setting(k: usize) -> Kind {
-    match k {
-        0 => Kind::Bits,
-        1 => Kind::Flag,
-        _ => Kind::End,
-    }
-}
-
-// k L x AREA
-fn kind_in_kernel(k: usize) -> Kind {
-    match k {
-        0 => Kind::Points,
-        1 => Kind::Bits,
-        2 => Kind::Area,
-        _ => Kind::End,
-    }
-}
-
-// slin x AREA
-fn kind_in_blend(k: usize) -> Kind {
-    match k {
-        0 => Kind::Bits,
-        1 => Kind::Area,
-        _ => Kind::End,
-    }
-}
-
-// near n t factor
-fn kind_in_near(k: usize) -> Kind {
-    match k {
-        0 => Kind::Near,
-        1 => Kind::Bits,
-        2 => Kind::Whole,
-        _ => Kind::End,
-    }
-}
-
-// cutoff n window
-fn kind_in_cutoff(k: usize) -> Kind {
-    match k {
-        0 => Kind::Whole,
-        1 => Kind::Window,
-        _ => Kind::End,
-    }
-}
-
-fn only(kind: Kind, k: usize) -> Kind {
-    if k == 0 { kind } else { Kind::End }
-}
-
-// What the word number k after a command is.
-pub fn kind_of(command: Command, k: usize) -> Kind {
-    match command {
-        Command::New => kind_in_new(k),
-        Command::Rec => kind_in_rec(k),
-        Command::Block => kind_in_block(k),
-        Command::Abs => kind_in_setting(k),
-        Command::Rel => kind_in_setting(k),
-        Command::K => kind_in_kernel(k),
-        Command::SLin => kind_in_blend(k),
-        Command::SQuad => kind_in_blend(k),
-        Command::SCubic => kind_in_blend(k),
-        Command::Near => kind_in_near(k),
-        Command::Cutoff => kind_in_cutoff(k),
-        Command::SetArea => only(Kind::Area, k),
-        Command::Chunk => only(Kind::Whole, k),
-        Command::WLin => only(Kind::Bits, k),
-        Command::WQuad => only(Kind::Bits, k),
-        Command::WCubic => only(Kind::Bits, k),
-        Command::Area => Kind::End,
-        Command::Reset => Kind::End,
-        Command::Q => Kind::End,
-        Command::Unknown => Kind::End,
-    }
-}
-
-fn side_of(name: u64) -> Parsed {
+// The words after a command, a hex digit for the kind of each, the last digit for the first word:
+// 1 the 16 digits of a float; 2 a whole number; 3 L, which is 1, 2, 4, 6 or 8; 4 `in` or `out`;
+// 5 `0` or `1`; 6 a number of grid points, 1 to 4; 7 a window; 8 an area; 9 the output of a block,
+// an area that is kept apart. Behind the last word stands 0.
+pub fn kinds_of(name: u64) -> u64 {
     match name {
-        0x1_696e => Parsed::Number(0),
-        0x1_6f7574 => Parsed::Number(1),
-        _ => Parsed::Bad,
+        // new r m L chunk channels in|out
+        0x1_6e6577 => 0x422311,
+        // rec L in|out channels chunk construction-chunk original current target m index fill needed-in
+        // needed-out
+        0x1_726563 => 0x2221111122243,
+        // setarea AREA
+        0x1_73657461726561 => 8,
+        // abs r 0|1, rel r 0|1
+        0x1_616273 => 0x51,
+        0x1_72656c => 0x51,
+        // chunk n
+        0x1_6368756e6b => 2,
+        // block count mask IN OUT
+        0x1_626c6f636b => 0x9822,
+        // k L x AREA
+        0x1_6b => 0x813,
+        // slin x AREA, squad x AREA, scubic x AREA
+        0x1_736c696e => 0x81,
+        0x1_7371756164 => 0x81,
+        0x1_736375626963 => 0x81,
+        // wlin x, wquad x, wcubic x
+        0x1_776c696e => 1,
+        0x1_7771756164 => 1,
+        0x1_776375626963 => 1,
+        // near n t factor
+        0x1_6e656172 => 0x216,
+        // cutoff n window
+        0x1_6375746f6666 => 0x72,
+        _ => 0,
     }
 }
 
-fn flag_of(name: u64) -> Parsed {
+// The words that have a name, `in` and `out`, `0` and `1`, and the windows b, b2, bh, bh2, h and h2 by
+// their places in the source: the tens are the word's kind, the ones its number. 0 is no such word.
+fn place_of(name: u64) -> u64 {
     match name {
-        0x1_30 => Parsed::Number(0),
-        0x1_31 => Parsed::Number(1),
-        _ => Parsed::Bad,
+        0x1_696e => 40,
+        0x1_6f7574 => 41,
+        0x1_30 => 50,
+        0x1_31 => 51,
+        0x1_62 => 70,
+        0x1_6232 => 71,
+        0x1_6268 => 72,
+        0x1_626832 => 73,
+        0x1_68 => 74,
+        0x1_6832 => 75,
+        _ => 0,
     }
 }
 
-// b, b2, bh, bh2, h, h2
-fn window_of(name: u64) -> Parsed {
-    match name {
-        0x1_62 => Parsed::Number(0),
-        0x1_6232 => Parsed::Number(1),
-        0x1_6268 => Parsed::Number(2),
-        0x1_626832 => Parsed::Number(3),
-        0x1_68 => Parsed::Number(4),
-        0x1_6832 => Parsed::Number(5),
-        _ => Parsed::Bad,
+fn named(kind: u64, name: u64) -> Parsed {
+    let place = place_of(name);
+    if place / 10 == kind {
+        return Parsed::Number(place % 10);
+    }
+    Parsed::Bad
+}
+
+fn is_allowed(kind: u64, n: u64) -> bool {
+    match kind {
+        3 => (n == 1) | (n == 2) | (n == 4) | (n == 6) | (n == 8),
+        6 => (n >= 1) & (n <= 4),
+        _ => true,
     }
 }
 
-fn points_of(number: Parsed) -> Parsed {
+fn counted(kind: u64, number: Parsed) -> Parsed {
     match number {
         Parsed::Bad => Parsed::Bad,
-        Parsed::Number(n) => match n {
-            1 | 2 | 4 | 6 | 8 => Parsed::Number(n),
-            _ => Parsed::Bad,
-        },
-    }
-}
-
-fn near_of(number: Parsed) -> Parsed {
-    match number {
-        Parsed::Bad => Parsed::Bad,
-        Parsed::Number(n) => match n {
-            1 | 2 | 3 | 4 => Parsed::Number(n),
-            _ => Parsed::Bad,
-        },
+        Parsed::Number(n) => {
+            if is_allowed(kind, n) {
+                return number;
+            }
+            Parsed::Bad
+        }
     }
 }
 
 // The number of a word as its kind reads it: of an area how many samples it has.
-pub fn value_of(kind: Kind, word: Word) -> Parsed {
+pub fn value_of(kind: u64, word: Word) -> Parsed {
     let whole = word.whole;
     let bits = word.bits;
     let area = word.area;
     match kind {
-        Kind::Bits => text::hex_done(bits),
-        Kind::Whole => text::decimal_done(whole),
-        Kind::Points => points_of(text::decimal_done(whole)),
-        Kind::Side => side_of(word.name),
-        Kind::Flag => flag_of(word.name),
-        Kind::Near => near_of(text::decimal_done(whole)),
-        Kind::Window => window_of(word.name),
-        Kind::Area => text::area_done(area),
-        Kind::Output => text::area_done(area),
-        Kind::End => Parsed::Bad,
-    }
-}
-
-pub fn is_output(kind: Kind) -> bool {
-    match kind {
-        Kind::Output => true,
-        _ => false,
-    }
-}
-
-pub fn is_end(kind: Kind) -> bool {
-    match kind {
-        Kind::End => true,
-        _ => false,
+        1 => text::hex_done(bits),
+        2 | 3 | 6 => counted(kind, text::decimal_done(whole)),
+        4 | 5 | 7 => named(kind, word.name),
+        8 | 9 => text::area_done(area),
+        _ => Parsed::Bad,
     }
 }

@@ -1,21 +1,19 @@
 -- `replay::replay` is safe and ends: its turns are counted down. Assumes nothing.
 use mathlib.Core.Path.{_≡_}
-use borrow.Author.Needs.{needs}
 use lib.ListN.{length}
+use borrow.Author.Needs.{needs}
 use Rattle.replay.proofs.replay.Statement.{statement}
 use Rattle.replay.proofs.replay.Tie as tie
 
 abbrev Inv-loop : tie.InvT-loop
-Inv-loop buf₀ out₀ values₀ input₀ output₀ work₀ r₀ going₀ turns₀ buf out values input output work r going turns = (length buf ≡ length buf₀) × (length out ≡ length out₀) × (length values ≡ length values₀) × (length input ≡ length input₀) × (length output ≡ length output₀) × (length work ≡ length work₀)
+Inv-loop buf₀ out₀ input₀ output₀ work₀ r₀ going₀ turns₀ buf out input output work r going turns =
+    (length buf ≡ length buf₀) × (length out ≡ length out₀) × (length input ≡ length input₀) × (length output ≡ length output₀) × (length work ≡ length work₀)
 
 abbrev μ-loop : tie.MeasureT-loop
-μ-loop buf₀ out₀ values₀ input₀ output₀ work₀ r₀ going₀ turns₀ buf out values input output work r going turns = turns
+μ-loop buf₀ out₀ input₀ output₀ work₀ r₀ going₀ turns₀ buf out input output work r going turns = turns
 
-nothing-requires : tie.Need-nothing-requires Inv-loop μ-loop
-nothing-requires c κs = search needs
-
-start-requires : tie.Need-start-requires Inv-loop μ-loop
-start-requires c κs = search needs
+begin-requires : tie.Need-begin-requires Inv-loop μ-loop
+begin-requires c κs = search needs
 
 none-yet-requires : tie.Need-none-yet-requires Inv-loop μ-loop
 none-yet-requires c κs = search needs
@@ -50,9 +48,6 @@ same-length-4 c = search needs
 same-length-5 : tie.Need-same-length-5 Inv-loop μ-loop
 same-length-5 c = search needs
 
-same-length-6 : tie.Need-same-length-6 Inv-loop μ-loop
-same-length-6 c = search needs
-
 returns : tie.Need-returns Inv-loop μ-loop
 returns c = search needs
 
@@ -62,8 +57,7 @@ replay-spec =
     (tie.spec
     Inv-loop
     μ-loop
-    nothing-requires
-    start-requires
+    begin-requires
     none-yet-requires
     loop-holds
     turn-requires
@@ -75,5 +69,4 @@ replay-spec =
     same-length-3
     same-length-4
     same-length-5
-    same-length-6
     returns)

@@ -12,17 +12,11 @@ Inv-loop buf₀ values₀ input₀ output₀ line₀ more₀ turns₀ buf values
 abbrev μ-loop : tie.MeasureT-loop
 μ-loop buf₀ values₀ input₀ output₀ line₀ more₀ turns₀ buf values input output line more turns = turns
 
-filled-requires : tie.Need-filled-requires Inv-loop μ-loop
-filled-requires c κs = search needs
-
 read-word-requires : tie.Need-read-word-requires Inv-loop μ-loop
 read-word-requires c κs = search needs
 
-command-of-requires : tie.Need-command-of-requires Inv-loop μ-loop
-command-of-requires c κs = search needs
-
-is-over-requires : tie.Need-is-over-requires Inv-loop μ-loop
-is-over-requires c κs = search needs
+begun-requires : tie.Need-begun-requires Inv-loop μ-loop
+begun-requires c κs = search needs
 
 loop-holds : tie.Need-loop-holds Inv-loop μ-loop
 loop-holds c = search needs
@@ -75,10 +69,8 @@ read-line-spec =
     (tie.spec
     Inv-loop
     μ-loop
-    filled-requires
     read-word-requires
-    command-of-requires
-    is-over-requires
+    begun-requires
     loop-holds
     read-next-requires
     sub-turns

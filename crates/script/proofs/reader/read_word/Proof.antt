@@ -6,11 +6,11 @@ use Rattle.script.proofs.reader.read_word.Statement.{statement}
 use Rattle.script.proofs.reader.read_word.Tie as tie
 
 abbrev Inv-loop : tie.InvT-loop
-Inv-loop buf₀ area₀ reading₀ going₀ turns₀ buf area reading going turns =
+Inv-loop buf₀ area₀ word₀ going₀ turns₀ buf area word going turns =
     (length buf ≡ length buf₀) × (length area ≡ length area₀)
 
 abbrev μ-loop : tie.MeasureT-loop
-μ-loop buf₀ area₀ reading₀ going₀ turns₀ buf area reading going turns = turns
+μ-loop buf₀ area₀ word₀ going₀ turns₀ buf area word going turns = turns
 
 no-word-requires : tie.Need-no-word-requires Inv-loop μ-loop
 no-word-requires c κs = search needs
@@ -18,8 +18,11 @@ no-word-requires c κs = search needs
 loop-holds : tie.Need-loop-holds Inv-loop μ-loop
 loop-holds c = search needs
 
-read-byte-requires : tie.Need-read-byte-requires Inv-loop μ-loop
-read-byte-requires c κs = search needs
+word-next-requires : tie.Need-word-next-requires Inv-loop μ-loop
+word-next-requires c κs = search needs
+
+is-going-requires : tie.Need-is-going-requires Inv-loop μ-loop
+is-going-requires c κs = search needs
 
 sub-turns : tie.Need-sub-turns Inv-loop μ-loop
 sub-turns c = search needs
@@ -56,7 +59,8 @@ read-word-spec =
     μ-loop
     no-word-requires
     loop-holds
-    read-byte-requires
+    word-next-requires
+    is-going-requires
     sub-turns
     loop-less
     loop-again

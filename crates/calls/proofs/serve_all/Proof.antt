@@ -1,28 +1,28 @@
--- `calls::serve` is safe and ends: its turns are counted down. Assumes nothing.
+-- `calls::serve_all` is safe and ends: its turns are counted down. Assumes nothing.
 use mathlib.Core.Path.{_≡_}
-use borrow.Author.Needs.{needs}
 use lib.ListN.{length}
-use Rattle.calls.proofs.serve.Statement.{statement}
-use Rattle.calls.proofs.serve.Tie as tie
+use borrow.Author.Needs.{needs}
+use Rattle.calls.proofs.serve_all.Statement.{statement}
+use Rattle.calls.proofs.serve_all.Tie as tie
 
 abbrev Inv-loop : tie.InvT-loop
-Inv-loop buf₀ out₀ values₀ input₀ output₀ work₀ s₀ going₀ turns₀ buf out values input output work s going turns =
-    (length buf ≡ length buf₀) × (length out ≡ length out₀) × (length values ≡ length values₀) × (length input ≡ length input₀) × (length output ≡ length output₀) × (length work ≡ length work₀)
+Inv-loop buf₀ out₀ input₀ output₀ work₀ s₀ going₀ turns₀ buf out input output work s going turns =
+    (length buf ≡ length buf₀) × (length out ≡ length out₀) × (length input ≡ length input₀) × (length output ≡ length output₀) × (length work ≡ length work₀)
 
 abbrev μ-loop : tie.MeasureT-loop
-μ-loop buf₀ out₀ values₀ input₀ output₀ work₀ s₀ going₀ turns₀ buf out values input output work s going turns = turns
+μ-loop buf₀ out₀ input₀ output₀ work₀ s₀ going₀ turns₀ buf out input output work s going turns = turns
 
-nothing-requires : tie.Need-nothing-requires Inv-loop μ-loop
-nothing-requires c κs = search needs
-
-start-requires : tie.Need-start-requires Inv-loop μ-loop
-start-requires c κs = search needs
+begin-requires : tie.Need-begin-requires Inv-loop μ-loop
+begin-requires c κs = search needs
 
 loop-holds : tie.Need-loop-holds Inv-loop μ-loop
 loop-holds c = search needs
 
-turn-requires : tie.Need-turn-requires Inv-loop μ-loop
-turn-requires c κs = search needs
+serve-requires : tie.Need-serve-requires Inv-loop μ-loop
+serve-requires c κs = search needs
+
+written-requires : tie.Need-written-requires Inv-loop μ-loop
+written-requires c κs = search needs
 
 sub-turns : tie.Need-sub-turns Inv-loop μ-loop
 sub-turns c = search needs
@@ -48,11 +48,11 @@ same-length-4 c = search needs
 same-length-5 : tie.Need-same-length-5 Inv-loop μ-loop
 same-length-5 c = search needs
 
-same-length-6 : tie.Need-same-length-6 Inv-loop μ-loop
-same-length-6 c = search needs
-
 returns : tie.Need-returns Inv-loop μ-loop
 returns c = search needs
+
+same-length-6 : tie.Need-same-length-6 Inv-loop μ-loop
+same-length-6 c = search needs
 
 same-length-7 : tie.Need-same-length-7 Inv-loop μ-loop
 same-length-7 c = search needs
@@ -66,25 +66,19 @@ same-length-9 c = search needs
 same-length-10 : tie.Need-same-length-10 Inv-loop μ-loop
 same-length-10 c = search needs
 
-same-length-11 : tie.Need-same-length-11 Inv-loop μ-loop
-same-length-11 c = search needs
-
-same-length-12 : tie.Need-same-length-12 Inv-loop μ-loop
-same-length-12 c = search needs
-
 returns-2 : tie.Need-returns-2 Inv-loop μ-loop
 returns-2 c = search needs
 
-pub serve-spec : {M : Type 1} → statement M
-serve-spec =
+pub serve-all-spec : {M : Type 1} → statement M
+serve-all-spec =
     tie.close
     (tie.spec
     Inv-loop
     μ-loop
-    nothing-requires
-    start-requires
+    begin-requires
     loop-holds
-    turn-requires
+    serve-requires
+    written-requires
     sub-turns
     loop-less
     loop-again
@@ -93,12 +87,10 @@ serve-spec =
     same-length-3
     same-length-4
     same-length-5
-    same-length-6
     returns
+    same-length-6
     same-length-7
     same-length-8
     same-length-9
     same-length-10
-    same-length-11
-    same-length-12
     returns-2)
