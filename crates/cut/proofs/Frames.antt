@@ -84,7 +84,7 @@ inside O shift last v p q k h l =
     omega (arith, mul-lt-mul-of-pos-right p k, mul-le-mul-right O r)
 
 module _ (s : State) (a : isState s ≡ true) (b : reachHolds s ≡ true) where
-  index-inside : (k : ℕ) → k < s .output → (x : Float) → x ≡ pathAt (stepNow s) (incrementOf s) (s .index) (suc k) .index
+  pub index-inside : (k : ℕ) → k < s .output → (x : Float) → x ≡ pathAt (stepNow s) (incrementOf s) (s .index) (suc k) .index
       → Number binary64 x × Below (2 ^ (17 + low binary64)) (exact binary64 x)
   index-inside k l x e =
       let shift = shiftOf (s .degree) in

@@ -1,10 +1,11 @@
--- The headline claims, a file each, and the laws that only they use: Areas, Places and Indices. Assumes nothing.
+-- The headline claims, a file each, and the laws that only they use: Areas, Places, Indices and Rising. Assumes nothing.
 pub mod Bench
 pub mod Nodes
 pub mod Cubics
 mod Places
 mod Areas
 mod Indices
+mod Rising
 pub mod Block
 pub mod Reach
 pub mod Refused
@@ -13,3 +14,4 @@ pub mod Blind
 pub mod Settled
 pub mod Lasting
 pub mod Drift
+pub mod Kept
