@@ -15,19 +15,27 @@ fn write_side(log: i32, fixed_out: bool) -> bool {
     }
 }
 
+// A degree's name, seven bytes long, by its points: 1, 2, 4, 6 or 8.
+fn write_degree(log: i32, points: u64) -> bool {
+    let names = *b"nearestlinear cubic  quinticseptic ";
+    if points > 8 {
+        return false;
+    }
+    let at = 7 * (points as usize / 2);
+    forms::write_form(log, &names[at..at + 7], &[])
+}
+
 // The head: the version, the words, and the record that they made.
 pub fn write_head(o: Options, files: Files, s: State, mask: u64) -> bool {
     let version = options::write_version(files.log);
     let name = forms::write_form(files.log, b"words ", &[]);
     let words = options::write_words(files.log);
-    let ratios = [text::bits_of(s.original), text::bits_of(s.m), o.points];
-    let first = forms::write_form(
-        files.log,
-        b"\nratio $ m $\npoints # (1 nearest, 2 linear, 4 cubic, 6 quintic, 8 septic)",
-        &ratios,
-    );
+    let ratios = [text::bits_of(s.original), text::bits_of(s.m)];
+    let first = forms::write_form(files.log, b"\nratio $ m $\ndegree ", &ratios);
+    let degree = write_degree(files.log, o.points);
     let side = write_side(files.log, o.fixed_out);
     let sizes = [
+        o.points,
         s.chunk as u64,
         s.channels as u64,
         mask,
@@ -35,10 +43,10 @@ pub fn write_head(o: Options, files: Files, s: State, mask: u64) -> bool {
     ];
     let second = forms::write_form(
         files.log,
-        b" chunk # channels # mask # start index $\n",
+        b" points # chunk # channels # mask # start index $\n",
         &sizes,
     );
-    version & name & words & first & side & second
+    version & name & words & first & degree & side & second
 }
 
 // Where the output begins, what was cut of the blocks and what was fed behind the input.
