@@ -7,12 +7,8 @@ use lib.Dec.{eqb, ltb, leb}
 use lib.Ieee.{Float}
 use lib.ListN.{getD, set}
 use Rattle.exact.specs.Doubles.{zeroF}
-use Rattle.samples.specs.Counts.{taken}
+use Rattle.samples.specs.Counts.{taken, upTo}
 use Rattle.samples.specs.Frames.{placeOf}
-
--- the samples up to the end of a piece: behind those that are done as many as the buffer's bytes hold, and none past the block
-abbrev pub upTo : ℕ → ℕ → ℕ → ℕ
-upTo size done most = min (done + size / 8) most
 
 -- v has other samples than w in the places of the samples number `first` up to `last` alone
 abbrev pub OthersStay : ℕ → ℕ → ℕ → ℕ → List Float → List Float → Type 0
@@ -88,10 +84,3 @@ pub record Unread (places has : Bool) (w v h g : List Float) (frames : ℕ) (hel
   pub kept : held ≡ has
   pub over : ended ≡ not has
   pub refused : failed ≡ not places
-
--- the samples from `first` up to `last`: all of them if all went well
-pub record Written (first most start last : ℕ) (good : Bool) : Type 0 where
-  pub from : start ≡ first
-  pub low : first ≤ last
-  pub high : last ≤ most
-  pub whole : good ≡ true → last ≡ most

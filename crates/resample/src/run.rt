@@ -1,7 +1,6 @@
 // The pass: block after block, until the first frame past the input or, with --raw, until the input is over.
 use blocks::Reading;
 use blocks::read_frames;
-use blocks::write_frames;
 use course::Pass;
 use course::Run;
 use course::before_block;
@@ -20,6 +19,7 @@ use process::BlockOutcome;
 use process::Ran;
 use state::State;
 use tally::Block;
+use written::write_frames;
 
 // The frames of the blocks before were written; of this one some may have been.
 fn half_written(p: Pass, files: Files) -> Pass {

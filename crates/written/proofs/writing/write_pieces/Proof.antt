@@ -1,12 +1,12 @@
--- `blocks::writing::write_pieces` meets its contract: each turn that is left has a sample or more. Assumes nothing.
+-- `written::writing::write_pieces` meets its contract: each turn that is left has a sample or more. Assumes nothing.
 use mathlib.Core.Path.{_≡_}
 use Prim.Native.Nat.{_+_, _≤_}
 use lib.ListN.{length}
 use native.Mathlib.Omega.{arith}
-use Rattle.blocks.proofs.Pieces.{writes-end, writes-over}
+use Rattle.written.proofs.Pieces.{writes-end, writes-over}
 use borrow.Author.Needs.{needs}
-use Rattle.blocks.proofs.writing.write_pieces.Statement.{statement}
-use Rattle.blocks.proofs.writing.write_pieces.Tie as tie
+use Rattle.written.proofs.writing.write_pieces.Statement.{statement}
+use Rattle.written.proofs.writing.write_pieces.Tie as tie
 
 abbrev Inv-loop : tie.InvT-loop
 Inv-loop fd bytes₀ output channels share most first w₀ turns₀ bytes w turns = (length bytes ≡ length bytes₀) × (w .first ≡ first) × (first ≤ w .last) × (w .last ≤ most) × (most ≤ w .last + turns)

@@ -1,9 +1,9 @@
--- `blocks::writing::write_range` meets its contract. Assumes nothing.
+-- `written::writing::write_range` meets its contract. Assumes nothing.
 use native.Mathlib.Omega.{arith}
-use Rattle.blocks.proofs.Pieces.{range-room, written-as}
+use Rattle.written.proofs.Pieces.{range-room, written-as}
 use borrow.Author.Needs.{needs}
-use Rattle.blocks.proofs.writing.write_range.Statement.{statement}
-use Rattle.blocks.proofs.writing.write_range.Tie as tie
+use Rattle.written.proofs.writing.write_range.Statement.{statement}
+use Rattle.written.proofs.writing.write_range.Tie as tie
 
 samples-in-requires : tie.Need-samples-in-requires
 samples-in-requires c κs = search needs

@@ -1,9 +1,9 @@
--- `blocks::writing::write_piece` meets its contract. Assumes nothing.
+-- `written::writing::write_piece` meets its contract. Assumes nothing.
 use native.Mathlib.Omega.{arith}
-use Rattle.blocks.proofs.Pieces.{gathered-as}
+use Rattle.written.proofs.Pieces.{gathered-as}
 use borrow.Author.Needs.{needs}
-use Rattle.blocks.proofs.writing.write_piece.Statement.{statement}
-use Rattle.blocks.proofs.writing.write_piece.Tie as tie
+use Rattle.written.proofs.writing.write_piece.Statement.{statement}
+use Rattle.written.proofs.writing.write_piece.Tie as tie
 
 sub-least : tie.Need-sub-least
 sub-least c = search needs

@@ -10,8 +10,8 @@ ghost use Prim.Native.Nat.{_*_, _-_, _<_, _≤_};
 ghost use lib.Dec.{ltb, leb};
 ghost use lib.ListN.{length};
 ghost use Rattle.samples.specs.Frames.{gatheredTo};
-ghost use Rattle.samples.specs.Counts.{taken};
-ghost use Rattle.blocks.specs.Blocks.{upTo, Written};
+ghost use Rattle.samples.specs.Counts.{taken, upTo};
+ghost use Rattle.written.specs.Pieces.{Written};
 
 // What was written: the samples from number `first` up to `last`, and whether all went well.
 struct Writing {

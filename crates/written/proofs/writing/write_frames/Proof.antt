@@ -1,10 +1,10 @@
--- `blocks::writing::write_frames` meets its contract. Assumes nothing.
+-- `written::writing::write_frames` meets its contract. Assumes nothing.
 use mathlib.Core.Bool.{true≢false}
 use mathlib.Core.Path.{sym, _∙_}
-use Rattle.blocks.proofs.Pieces.{range-goes, range-in}
+use Rattle.written.proofs.Pieces.{range-goes, range-in}
 use borrow.Author.Needs.{needs}
-use Rattle.blocks.proofs.writing.write_frames.Statement.{statement}
-use Rattle.blocks.proofs.writing.write_frames.Tie as tie
+use Rattle.written.proofs.writing.write_frames.Statement.{statement}
+use Rattle.written.proofs.writing.write_frames.Tie as tie
 
 takes-requires : tie.Need-takes-requires
 takes-requires c κs = search needs

@@ -1,0 +1,2 @@
+-- The samples that are written. Definitions only.
+pub mod Pieces
