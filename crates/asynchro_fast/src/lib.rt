@@ -55,10 +55,13 @@ fn cubic_of(x: f64, ys: &[f64]) -> f64
 {
     let third = 1.0 / 3.0;
     let sixth = 1.0 / 6.0;
+    let y0 = ys[0];
     let a0 = ys[1];
-    let a1 = -third * ys[0] - 0.5 * ys[1] + ys[2] - sixth * ys[3];
-    let a2 = 0.5 * (ys[0] + ys[2]) - ys[1];
-    let a3 = 0.5 * (ys[1] - ys[2]) + sixth * (ys[3] - ys[0]);
+    let y2 = ys[2];
+    let y3 = ys[3];
+    let a1 = -third * y0 - 0.5 * a0 + y2 - sixth * y3;
+    let a2 = 0.5 * (y0 + y2) - a0;
+    let a3 = 0.5 * (a0 - y2) + sixth * (y3 - y0);
     a0 + x * (a1 + x * (a2 + x * a3))
 }
 
@@ -67,7 +70,8 @@ fn linear_of(x: f64, ys: &[f64]) -> f64
     requires { ⌜ length (now ys) ≡ 2 ⌝ }
     ensures { λ r. ⌜ r ≡ linear x (now (ys .entry)) ⌝ }
 {
-    ys[0] + x * (ys[1] - ys[0])
+    let y0 = ys[0];
+    y0 + x * (ys[1] - y0)
 }
 
 // The kernel where the number of samples is right. Only our own crates call this.
