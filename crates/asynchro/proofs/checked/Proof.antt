@@ -1,0 +1,99 @@
+-- `asynchro::checked` meets its contract: a rung of the ladder for each refusal, then the sizes. Assumes nothing.
+use mathlib.Core.Path.{ap, _∙_}
+use borrow.Author.Tests.{lt-leb, le-leb}
+use borrow.Author.Needs.{needs}
+use Rattle.error.proofs.Ladder.{pass, stop, failed, passed}
+use Rattle.asynchro.specs.Calls.{construct, firstLengths}
+use Rattle.asynchro.proofs.checked.Statement.{statement}
+use Rattle.asynchro.proofs.checked.Tie as tie
+
+above-zero-requires : tie.Need-above-zero-requires
+above-zero-requires c κs = search needs
+
+returns : tie.Need-returns
+unfolding construct
+returns c = stop _ _ _ _ (failed (c .before .above-zero .ensures) (c .if1 .taken))
+
+at-least-one-requires : tie.Need-at-least-one-requires
+at-least-one-requires c κs = search needs
+
+returns-2 : tie.Need-returns-2
+unfolding construct
+returns-2 c =
+    let z = c .before .before in
+    pass _ _ _ _ _ (passed (z .before .above-zero .ensures) (z .if1 .left)) (
+    stop _ _ _ _ (failed (c .before .at-least-one .ensures) (c .if2 .taken)))
+
+returns-3 : tie.Need-returns-3
+unfolding construct
+returns-3 c =
+    let o = c .before .before in
+    let z = o .before .before in
+    pass _ _ _ _ _ (passed (z .before .above-zero .ensures) (z .if1 .left)) (
+    pass _ _ _ _ _ (passed (o .before .at-least-one .ensures) (o .if2 .left)) (
+    stop _ _ _ _ (lt-leb _ _ (c .if3 .taken))))
+
+is-ratio-requires : tie.Need-is-ratio-requires
+is-ratio-requires c κs = search needs
+
+returns-4 : tie.Need-returns-4
+unfolding construct
+returns-4 c =
+    let k = c .before .before in
+    let o = k .before .before in
+    let z = o .before .before in
+    pass _ _ _ _ _ (passed (z .before .above-zero .ensures) (z .if1 .left)) (
+    pass _ _ _ _ _ (passed (o .before .at-least-one .ensures) (o .if2 .left)) (
+    pass _ _ _ _ _ (le-leb _ _ (k .if3 .left)) (
+    stop _ _ _ _ (failed (c .before .is-ratio .ensures) (c .if4 .taken)))))
+
+is-channels-requires : tie.Need-is-channels-requires
+is-channels-requires c κs = search needs
+
+returns-5 : tie.Need-returns-5
+unfolding construct
+returns-5 c =
+    let t = c .before .before in
+    let k = t .before .before in
+    let o = k .before .before in
+    let z = o .before .before in
+    pass _ _ _ _ _ (passed (z .before .above-zero .ensures) (z .if1 .left)) (
+    pass _ _ _ _ _ (passed (o .before .at-least-one .ensures) (o .if2 .left)) (
+    pass _ _ _ _ _ (le-leb _ _ (k .if3 .left)) (
+    pass _ _ _ _ _ (passed (t .before .is-ratio .ensures) (t .if4 .left)) (
+    stop _ _ _ _ (failed (c .before .is-channels .ensures) (c .if5 .taken))))))
+
+first-lengths-requires : tie.Need-first-lengths-requires
+first-lengths-requires c κs = search needs
+
+returns-6 : tie.Need-returns-6
+unfolding construct
+returns-6 c =
+    let h = c .before in
+    let t = h .before .before in
+    let k = t .before .before in
+    let o = k .before .before in
+    let z = o .before .before in
+    let a = z .before .before in
+    pass _ _ _ _ _ (passed (z .before .above-zero .ensures) (z .if1 .left)) (
+    pass _ _ _ _ _ (passed (o .before .at-least-one .ensures) (o .if2 .left)) (
+    pass _ _ _ _ _ (le-leb _ _ (k .if3 .left)) (
+    pass _ _ _ _ _ (passed (t .before .is-ratio .ensures) (t .if4 .left)) (
+    pass _ _ _ _ _ (passed (h .before .is-channels .ensures) (h .if5 .left)) (
+    c .first-lengths .ensures ∙ ap firstLengths (a .pre))))))
+
+pub checked-spec : {M : Type 1} → statement M
+checked-spec =
+    tie.close
+    (tie.spec
+    above-zero-requires
+    returns
+    at-least-one-requires
+    returns-2
+    returns-3
+    is-ratio-requires
+    returns-4
+    is-channels-requires
+    returns-5
+    first-lengths-requires
+    returns-6)
