@@ -2,3 +2,4 @@
 pub mod Points
 pub mod Valid
 pub mod Keeps
+pub mod Ends

@@ -170,13 +170,12 @@ pub fn is_state(s: State) -> bool
 pub fn update_lengths(s: State) -> Made
     ensures { λ r. ⌜ saidMade r ≡ updateLengths s ⌝ }
 {
-    let Size::Frames(input) = input_of(s) else {
-        return Made::Refused(Refusal::SizeTooLarge);
-    };
-    let Size::Frames(output) = output_of(s) else {
-        return Made::Refused(Refusal::SizeTooLarge);
-    };
-    if !sizes::size_holds(max_input_of(s), input) {
+    let needed = input_of(s);
+    let left = output_of(s);
+    let input = sizes::frames_of(needed);
+    let output = sizes::frames_of(left);
+    let within = sizes::size_holds(max_input_of(s), input);
+    if !(sizes::is_frames(needed) & sizes::is_frames(left) & within) {
         return Made::Refused(Refusal::SizeTooLarge);
     }
     let mut next = s;
