@@ -1,7 +1,6 @@
 -- `text::areas::area_step` meets its contract: each return goes by the case that led there. Assumes nothing.
 use borrow.Author.Needs.{needs}
-use borrow.Author.Tests.{eq-eqb}
-use Rattle.text.proofs.Held.{first-state, first-stored, later-state, later-stored}
+use Rattle.text.proofs.Held.{dash, after-dash, after-bad, first-state, first-stored, later-state, later-stored}
 use Rattle.text.proofs.areas.area_step.Statement.{statement}
 use Rattle.text.proofs.areas.area_step.Tie as tie
 
@@ -34,9 +33,8 @@ enum-told-3 c = search needs
 
 returns : tie.Need-returns
 returns c =
-    let e = c .before .enum-told .given .1 in
-    let n = eq-eqb _ 45 (c .if1 .taken) in
-    (rw (e, n), rw (e, n))
+    let a = c .before .before .before .before .args in
+    dash (a .area .now) (a .read) (a .byte) (c .before .enum-told .given .1) (c .if1 .taken)
 
 same-length : tie.Need-same-length
 same-length c = search needs
@@ -50,7 +48,9 @@ returns-2 c =
     (first-state _ _ _ _ e h p q _ _ (c .before .before .next .ensures .0), first-stored _ _ _ _ e h p q _ _ (c .before .before .next .ensures .1))
 
 returns-3 : tie.Need-returns-3
-returns-3 c = search needs
+returns-3 c =
+    let a = c .before .before .before .args in
+    after-dash (a .area .now) (a .read) (a .byte) (c .enum-told2 .given .1)
 
 same-length-2 : tie.Need-same-length-2
 same-length-2 c = search needs
@@ -62,7 +62,9 @@ returns-4 c =
     (later-state _ _ _ _ _ e q _ _ (c .before .before .next2 .ensures .0), later-stored _ _ _ _ _ e q _ _ (c .before .before .next2 .ensures .1))
 
 returns-5 : tie.Need-returns-5
-returns-5 c = search needs
+returns-5 c =
+    let a = c .before .before .before .args in
+    after-bad (a .area .now) (a .read) (a .byte) (c .enum-told3 .given .1)
 
 pub area-step-spec : {M : Type 1} → statement M
 area-step-spec =

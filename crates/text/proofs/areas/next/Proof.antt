@@ -1,7 +1,6 @@
 -- `text::areas::next` meets its contract: each return goes by the tests that led there. Assumes nothing.
 use borrow.Author.Needs.{needs}
-use borrow.Author.Tests.{lt-ltb, le-ltb, eq-eqb, ne-eqb}
-use lib.Seq.{set-out}
+use Rattle.text.proofs.Held.{next-bad, next-short, next-full, next-whole}
 use Rattle.text.proofs.areas.next.Statement.{statement}
 use Rattle.text.proofs.areas.next.Tie as tie
 
@@ -12,19 +11,19 @@ enum-told : tie.Need-enum-told
 enum-told c = search needs
 
 returns : tie.Need-returns
-returns c = search needs
+returns c =
+    let a = c .before .before .before .args in
+    next-bad (a .area .now) (a .k) (a .run) (c .enum-told .given .1)
 
 returns-2 : tie.Need-returns-2
 returns-2 c =
-    let e = c .before .before .run .given .1 in
-    let n = ne-eqb _ 16 (c .if1 .taken) in
-    (rw (e, n), rw (e, n))
+    let a = c .before .before .before .before .before .args in
+    next-short (a .area .now) (a .k) (a .run) _ _ (c .before .before .run .given .1) (c .if1 .taken)
 
 returns-3 : tie.Need-returns-3
 returns-3 c =
-    let e = c .before .before .before .run .given .1 in
-    let n = eq-eqb _ 16 (c .before .if1 .left) in
-    (rw (e, n, le-ltb _ _ (c .if2 .taken)), rw (e, n, set-out _ _ _ (c .if2 .taken)))
+    let a = c .before .before .before .before .before .before .args in
+    next-full (a .area .now) (a .k) (a .run) _ _ (c .before .before .before .run .given .1) (c .before .if1 .left) (c .if2 .taken)
 
 of-bits-requires : tie.Need-of-bits-requires
 of-bits-requires c κs = search needs
@@ -46,9 +45,9 @@ same-length c = search needs
 
 returns-4 : tie.Need-returns-4
 returns-4 c =
-    let e = c .before .before .before .before .before .run .given .1 in
-    let n = eq-eqb _ 16 (c .before .before .before .if1 .left) in
-    (rw (e, n, lt-ltb _ _ (c .before .before .if2 .left), c .no-digits .ensures), rw (e, n, c .before .of-bits .ensures))
+    let t = c .before .before .before in
+    let a = t .before .before .before .before .before .args in
+    next-whole (a .area .now) (a .k) (a .run) _ _ _ _ (t .before .before .run .given .1) (t .if1 .left) (c .before .before .if2 .left) (c .no-digits .ensures) (c .before .of-bits .ensures)
 
 pub next-spec : {M : Type 1} → statement M
 next-spec =
