@@ -1,7 +1,7 @@
 -- Room in a buffer: what the code's tests for it say. Assumes nothing.
 use mathlib.Core.Bool.{Bool, true, false, not}
 use mathlib.Core.Path.{_≡_, refl, sym, _∙_}
-use Prim.Native.Nat.{ℕ, _+_, _-_, _*_, _/_, _<_, _≤_}
+use Prim.Native.Nat.{ℕ, _+_, _-_, _<_, _≤_}
 use native.Mathlib.Omega.{arith}
 use borrow.Author.Tests.{le-leb, lt-leb, leb-true, leb-false, not-true, not-false}
 use lib.Dec.{leb}
@@ -20,9 +20,6 @@ module _ (size at : ℕ) where
 
   pub room-left : (n : ℕ) → at ≤ size → leb n (size - at) ≡ leb (at + n) size
   room-left n h = same-test n (size - at) (at + n) size (λ l. omega arith) (λ l. omega arith)
-
-  pub room-sixteens : (n : ℕ) → at ≤ size → leb n ((size - at) / 16) ≡ leb (at + 16 * n) size
-  room-sixteens n h = same-test n ((size - at) / 16) (at + 16 * n) size (λ l. omega arith) (λ l. omega arith)
 
 -- a test's answer, t
 module _ (t : Bool) (a b : ℕ) (e : t ≡ leb a b) where

@@ -1,8 +1,8 @@
 // Areas: the samples' digits run together, or `-` for no sample.
+use crate::bytes::has_room;
 use crate::bytes::put_byte;
 ghost use mathlib.Core.Path.{_≡_};
 ghost use Prim.Native.Nat.{_+_, _*_, _≤_};
-ghost use lib.Dec.{leb};
 ghost use lib.ListN.{length};
 ghost use lib.Seq.{paste};
 ghost use Rattle.text.specs.Areas.{samplesText, areaText};
@@ -18,16 +18,6 @@ fn put_samples(out: &mut [u8], at: usize, xs: &[f64])
     }
 }
 
-// Whether there is room for n samples at the place `at`.
-fn has_room_for(out: &[u8], at: usize, n: usize) -> bool
-    ensures { λ r. ⌜ r ≡ leb (at + 16 * n) (length (now (out .entry))) ⌝ }
-{
-    if at > out.len() {
-        return false;
-    }
-    n <= (out.len() - at) / 16
-}
-
 pub fn put_area(out: &mut [u8], at: usize, xs: &[f64]) -> usize
     ensures place { λ r. ⌜ r ≡ placeAfter (length (now (out .entry))) at (length (areaText (now (xs .entry)))) ⌝ }
     ensures put { λ _. ⌜ now (out .exit) ≡ putIn (now (out .entry)) at (areaText (now (xs .entry))) ⌝ }
@@ -35,9 +25,10 @@ pub fn put_area(out: &mut [u8], at: usize, xs: &[f64]) -> usize
     if xs.len() == 0 {
         return put_byte(out, at, 45);
     }
-    if !has_room_for(out, at, xs.len()) {
+    let n = 16 * xs.len();
+    if !has_room(out, at, n) {
         return out.len();
     }
     put_samples(out, at, xs);
-    at + 16 * xs.len()
+    at + n
 }

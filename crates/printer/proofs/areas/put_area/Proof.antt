@@ -20,8 +20,11 @@ returns c =
     let a = c .before .before .before .before .before .before .before .args in
     same-text (a .out .now) (a .at) _ _ _ _ (area-none (a .xs .now) (omega arith)) (c .before .before .put-byte .ensures)
 
-has-room-for-requires : tie.Need-has-room-for-requires
-has-room-for-requires c κs = search needs
+mul-n : tie.Need-mul-n
+mul-n c = search needs
+
+has-room-requires : tie.Need-has-room-requires
+has-room-requires c κs = search needs
 
 same-length-2 : tie.Need-same-length-2
 same-length-2 c = search needs
@@ -29,20 +32,17 @@ same-length-2 c = search needs
 returns-2 : tie.Need-returns-2
 returns-2 c =
     let a = c .before .before .before .before .before .before .args in
-    area-kept-out (a .out .now) (a .at) (a .xs .now) (omega arith) (room-none _ (a .at + 16 * length (a .xs .now)) (length (a .out .now)) (c .before .has-room-for .ensures) (c .if2 .taken))
+    area-kept-out (a .out .now) (a .at) (a .xs .now) (omega arith) (room-none _ (a .at + 16 * length (a .xs .now)) (length (a .out .now)) (c .before .has-room .ensures) (c .if2 .taken))
 
 put-samples-requires : tie.Need-put-samples-requires
 put-samples-requires c κs =
     let a = c .before .before .before .before .before .before .before .args in
-    room-some _ (a .at + 16 * length (a .xs .now)) (length (a .out .now)) (c .before .before .has-room-for .ensures) (c .before .if2 .left)
-
-mul-result : tie.Need-mul-result
-mul-result c = search needs
+    room-some _ (a .at + 16 * length (a .xs .now)) (length (a .out .now)) (c .before .before .has-room .ensures) (c .before .if2 .left)
 
 add-result : tie.Need-add-result
 add-result c =
     let a = c .before .before .before .before .before .before .before .before .before .before .args in
-    let h = room-some _ (a .at + 16 * length (a .xs .now)) (length (a .out .now)) (c .before .before .before .before .before .has-room-for .ensures) (c .before .before .before .before .if2 .left) in
+    let h = room-some _ (a .at + 16 * length (a .xs .now)) (length (a .out .now)) (c .before .before .before .before .before .has-room .ensures) (c .before .before .before .before .if2 .left) in
     omega arith
 
 same-length-3 : tie.Need-same-length-3
@@ -51,7 +51,7 @@ same-length-3 c = search needs
 returns-3 : tie.Need-returns-3
 returns-3 c =
     let a = c .before .before .before .before .before .before .before .before .before .before .args in
-    let h = room-some _ (a .at + 16 * length (a .xs .now)) (length (a .out .now)) (c .before .before .before .before .before .has-room-for .ensures) (c .before .before .before .before .if2 .left) in
+    let h = room-some _ (a .at + 16 * length (a .xs .now)) (length (a .out .now)) (c .before .before .before .before .before .has-room .ensures) (c .before .before .before .before .if2 .left) in
     area-fitted (a .out .now) (a .at) (a .xs .now) (omega arith) _ h (c .before .before .put-samples .ensures)
 
 pub put-area-spec : {M : Type 1} → statement M
@@ -61,11 +61,11 @@ put-area-spec =
     put-byte-requires
     same-length
     returns
-    has-room-for-requires
+    mul-n
+    has-room-requires
     same-length-2
     returns-2
     put-samples-requires
-    mul-result
     add-result
     same-length-3
     returns-3)
