@@ -9,11 +9,12 @@ use mir.Val.{SFits, toZ, ofZ}
 use mir.ValLaws.{toZ-ofZ}
 use lib.Dec.{leb·zero}
 use lib.IntN.{ℤ, pos, negsuc, natAbs}
-use lib.ListN.{length}
+use lib.ListN.{length, set}
 use lib.Signed.{leZ}
 use Rattle.text.proofs.Patterns.{apart}
-use Rattle.printer.specs.Put.{putIn, decimalText, signedText}
-use Rattle.printer.proofs.Texts.{TextPut, same-text, kept-out, text-behind}
+use Rattle.printer.specs.Put.{decimalText, signedText}
+use Rattle.printer.proofs.Pastes.{pasted-one}
+use Rattle.printer.proofs.Texts.{TextPut, same-text, fitted, kept-out, text-behind}
 
 -- ---- a `-` and a text w of k bytes, which is v
 module _ (d : List ℕ) (at : ℕ) (w v : List ℕ) (k : ℕ) (e : k ≡ length w) (s : w ≡ v) where
@@ -23,8 +24,10 @@ module _ (d : List ℕ) (at : ℕ) (w v : List ℕ) (k : ℕ) (e : k ≡ length 
   pub dash-kept-out : length d < at + (1 + k) → TextPut d at (45 ∷ v) (length d) d
   dash-kept-out h = same-text d at (45 ∷ w) (45 ∷ v) (length d) d dashed (kept-out d at (45 ∷ w) (1 + k) (omega arith) h)
 
-  pub dash-fitted : (x : List ℕ) (r : ℕ) (y : List ℕ) → at + (1 + k) ≤ length d → x ≡ putIn d at (45 ∷ []) → TextPut x (at + 1) w r y → TextPut d at (45 ∷ v) r y
-  dash-fitted x r y h p q = same-text d at (45 ∷ w) (45 ∷ v) r y dashed (text-behind d at (45 ∷ []) w x r y (omega arith) p q)
+  pub dash-fitted : (r : ℕ) (y : List ℕ) → at + (1 + k) ≤ length d → TextPut (set d at 45) (at + 1) w r y → TextPut d at (45 ∷ v) r y
+  dash-fitted r y h q =
+      let p = fitted d at (45 ∷ []) 1 refl (set d at 45) (omega arith) (pasted-one d at 45 (omega arith)) .1 in
+      same-text d at (45 ∷ w) (45 ∷ v) r y dashed (text-behind d at (45 ∷ []) w (set d at 45) r y (omega arith) p q)
 
 -- ---- the code's test of the number, which it reads back from its bits
 by-sign : (z : ℤ) (t : Bool) → leZ (pos 0) z ≡ t → signedText z ≡ cond t (decimalText (natAbs z)) (45 ∷ decimalText (natAbs z))

@@ -1,6 +1,5 @@
 // Numbers in decimal, and floats by their bits.
 use crate::bytes::has_room;
-use crate::bytes::put_byte;
 use crate::bytes::put_bytes;
 ghost use mathlib.Core.List.{_∷_};
 ghost use mathlib.Core.Path.{_≡_};
@@ -40,7 +39,7 @@ fn put_negative(out: &mut [u8], at: usize, n: u64) -> usize
     if !has_room(out, at, 1 + k) {
         return out.len();
     }
-    put_byte(out, at, 45);
+    out[at] = 45;
     put_bytes(out, at + 1, &digits[..k])
 }
 

@@ -1,8 +1,9 @@
 -- `printer::numbers::put_negative` meets its contract: the digits are put behind the sign where the test says that there is room for both. Assumes nothing.
+use mathlib.Core.Path.{_∙_}
 use Prim.Native.Nat.{_+_}
 use native.Mathlib.Omega.{arith}
 use borrow.Author.Needs.{needs}
-use lib.ListN.{length}
+use lib.ListN.{length, length-set}
 use Rattle.printer.proofs.Decimals.{few, decimal-is}
 use Rattle.printer.proofs.Room.{room-some, room-none}
 use Rattle.printer.proofs.Signs.{dash-kept-out, dash-fitted}
@@ -32,14 +33,16 @@ returns c =
     dash-kept-out (a .out .now) (a .at) _ _ (d .result) (d .ensures .0 .1) (decimal-is (d .result) (a .n) (s .fits .n .fits) (d .ensures .1 .0) _ (d .ensures .1 .1))
     (room-none _ (a .at + (1 + d .result)) (length (a .out .now)) (c .before .has-room .ensures) (c .if1 .taken))
 
-put-byte-requires : tie.Need-put-byte-requires
-put-byte-requires c κs = search needs
+slice-write-out : tie.Need-slice-write-out
+slice-write-out c =
+    let a = c .before .before .before .before .before .before .args in
+    let h = room-some _ (a .at + (1 + c .before .before .before .decimal .result)) (length (a .out .now)) (c .before .has-room .ensures) (c .if1 .left) in
+    omega arith
 
 add-put-bytes : tie.Need-add-put-bytes
 add-put-bytes c =
-    let a = c .before .before .before .before .before .before .before .before .before .before .before .args in
-    let d = c .before .before .before .before .before .before .before .before .decimal in
-    let h = room-some _ (a .at + (1 + d .result)) (length (a .out .now)) (c .before .before .before .before .before .before .has-room .ensures) (c .before .before .before .before .before .if1 .left) in
+    let a = c .before .before .before .before .before .before .before .args in
+    let h = room-some _ (a .at + (1 + c .before .before .before .before .decimal .result)) (length (a .out .now)) (c .before .before .has-room .ensures) (c .before .if1 .left) in
     omega arith
 
 array-share-prefix-digits : tie.Need-array-share-prefix-digits
@@ -52,16 +55,19 @@ put-bytes-requires : tie.Need-put-bytes-requires
 put-bytes-requires c κs = search needs
 
 same-length-2 : tie.Need-same-length-2
-same-length-2 c = search needs
+same-length-2 c =
+    let a = c .before .before .before .before .before .before .before .before .before .before .before .args in
+    c .before .out .given ∙ length-set (a .out .now) (a .at) 45
 
 returns-2 : tie.Need-returns-2
 returns-2 c =
-    let s = c .before .before .before .before .before .before .before .before .before .before .before .before .before .before .before in
+    let t = c .before .before .before .before .before in
+    let s = t .before .before .before .before .before .before in
     let a = s .args in
-    let d = c .before .before .before .before .before .before .before .before .before .before .before .before .decimal in
-    let h = room-some _ (a .at + (1 + d .result)) (length (a .out .now)) (c .before .before .before .before .before .before .before .before .before .before .has-room .ensures) (c .before .before .before .before .before .before .before .before .before .if1 .left) in
+    let d = t .before .before .before .decimal in
+    let h = room-some _ (a .at + (1 + d .result)) (length (a .out .now)) (t .before .has-room .ensures) (t .if1 .left) in
     dash-fitted (a .out .now) (a .at) _ _ (d .result) (d .ensures .0 .1) (decimal-is (d .result) (a .n) (s .fits .n .fits) (d .ensures .1 .0) _ (d .ensures .1 .1))
-    _ _ _ h (c .before .before .before .before .before .before .before .put-byte .ensures .1) (c .before .before .put-bytes .ensures)
+    _ _ h (c .before .before .put-bytes .ensures)
 
 pub put-negative-spec : {M : Type 1} → statement M
 put-negative-spec =
@@ -72,7 +78,7 @@ put-negative-spec =
     has-room-requires
     same-length
     returns
-    put-byte-requires
+    slice-write-out
     add-put-bytes
     array-share-prefix-digits
     slice-aggregate-put-bytes
