@@ -2,7 +2,7 @@
 use crate::digits::digit_of;
 ghost use mathlib.Core.Path.{_≡_};
 ghost use Prim.Native.Nat.{_+_, _<_, min};
-ghost use Rattle.text.specs.Words.{noDigits, stepRun, decimalDone, hexDone, decimalOf, hexOf};
+ghost use Rattle.text.specs.Words.{noDigits, stepRun, decimalDone, hexDone, decimalOf, hexOf, runOf};
 
 // What a run of digits has come to: how many there are, where 17 stands for more than 16, and their
 // number. It is bad where a byte is no digit, or the number is above 2^64 - 1.
@@ -91,24 +91,28 @@ pub fn hex_done(run: Run) -> Parsed
     }
 }
 
+// What a whole word has come to in a base.
+fn run_of(base: u64, word: &[u8]) -> Run
+    requires { ⌜ 0 < base ⌝ }
+    ensures { λ r. ⌜ r ≡ runOf base (now (word .entry)) ⌝ }
+{
+    let mut run = no_digits();
+    for k in 0..word.len() {
+        run = step(base, run, word[k]);
+    }
+    run
+}
+
 // The number of a word of decimal digits.
 pub fn decimal_of(word: &[u8]) -> Parsed
     ensures { λ r. ⌜ r ≡ decimalOf (now (word .entry)) ⌝ }
 {
-    let mut run = no_digits();
-    for k in 0..word.len() {
-        run = decimal_step(run, word[k]);
-    }
-    decimal_done(run)
+    decimal_done(run_of(10, word))
 }
 
 // The number of a word of 16 hex digits.
 pub fn hex_of(word: &[u8]) -> Parsed
     ensures { λ r. ⌜ r ≡ hexOf (now (word .entry)) ⌝ }
 {
-    let mut run = no_digits();
-    for k in 0..word.len() {
-        run = hex_step(run, word[k]);
-    }
-    hex_done(run)
+    hex_done(run_of(16, word))
 }
