@@ -57,6 +57,34 @@ fn end_of(s: State, made: Made) -> Outcome
     }
 }
 
+// The record before its sizes are worked out.
+fn fresh_state(
+    r: f64,
+    m: f64,
+    degree: PolynomialDegree,
+    chunk: usize,
+    channels: usize,
+    fixed: FixedAsync,
+) -> State
+    ensures { λ s. ⌜ s ≡ freshState r m degree chunk channels fixed ⌝ }
+{
+    State {
+        channels,
+        chunk,
+        chunk0: chunk,
+        input: 0,
+        output: 0,
+        fill: 0,
+        index: sizes::start_index(asynchro_fast::nbr_points(degree)),
+        original: r,
+        current: r,
+        target: r,
+        m,
+        degree,
+        fixed,
+    }
+}
+
 // Construction's last rungs: 6, and the fill.
 fn first_lengths(s: State) -> Made
     ensures { λ r. ⌜ saidMade r ≡ firstLengths s ⌝ }
@@ -74,29 +102,6 @@ fn first_lengths(s: State) -> Made
     }
 }
 
-// Construction's rungs, on the record as its numbers make it. Only our own crates call this.
-fn checked(s: State) -> Made
-    requires { ⌜ s ≡ freshState (s .original) (s .m) (s .degree) (s .chunk) (s .channels) (s .fixed) ⌝ }
-    ensures { λ t. ⌜ saidMade t ≡ construct (s .original) (s .m) (s .degree) (s .chunk) (s .channels) (s .fixed) ⌝ }
-{
-    if !above_zero(s.original) {
-        return Made::Refused(Refusal::InvalidRatio(s.original));
-    }
-    if !state::at_least_one(s.m) {
-        return Made::Refused(Refusal::InvalidRelativeRatio(s.m));
-    }
-    if s.chunk < 1 {
-        return Made::Refused(Refusal::InvalidChunkSize);
-    }
-    if !state::is_ratio(s.original) {
-        return Made::Refused(Refusal::RatioBeyondPort(s.original));
-    }
-    if !state::is_channels(s.channels) {
-        return Made::Refused(Refusal::Channels);
-    }
-    first_lengths(s)
-}
-
 // Construction: refusals 1, 2, 3, 5, 7, 6. It is lent no area.
 pub fn new_poly(
     r: f64,
@@ -108,21 +113,22 @@ pub fn new_poly(
 ) -> Made
     ensures { λ s. ⌜ saidMade s ≡ construct r m degree chunk channels fixed ⌝ }
 {
-    checked(State {
-        channels,
-        chunk,
-        chunk0: chunk,
-        input: 0,
-        output: 0,
-        fill: 0,
-        index: sizes::start_index(asynchro_fast::nbr_points(degree)),
-        original: r,
-        current: r,
-        target: r,
-        m,
-        degree,
-        fixed,
-    })
+    if !above_zero(r) {
+        return Made::Refused(Refusal::InvalidRatio(r));
+    }
+    if !state::at_least_one(m) {
+        return Made::Refused(Refusal::InvalidRelativeRatio(m));
+    }
+    if chunk < 1 {
+        return Made::Refused(Refusal::InvalidChunkSize);
+    }
+    if !state::is_ratio(r) {
+        return Made::Refused(Refusal::RatioBeyondPort(r));
+    }
+    if !state::is_channels(channels) {
+        return Made::Refused(Refusal::Channels);
+    }
+    first_lengths(fresh_state(r, m, degree, chunk, channels, fixed))
 }
 
 // 1/m <= rel <= m; false for a NaN.

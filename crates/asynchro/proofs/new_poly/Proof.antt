@@ -1,27 +1,103 @@
--- `asynchro::new_poly` meets its contract: the record holds the numbers that it was made of. Assumes nothing.
+-- `asynchro::new_poly` meets its contract: a rung of the ladder for each refusal, then the record. Assumes nothing.
 use mathlib.Core.Path.{ap, _∙_}
+use borrow.Author.Tests.{lt-leb, le-leb}
 use borrow.Author.Needs.{needs}
-use lib.Ieee.{Float}
-use Rattle.sizes.specs.Sizes.{startOf}
-use Rattle.state.specs.Record.{changed}
-use Rattle.asynchro.specs.Calls.{freshState}
+use Rattle.error.proofs.Ladder.{pass, stop, failed, passed}
+use Rattle.asynchro.specs.Calls.{freshState, construct, firstLengths}
 use Rattle.asynchro.proofs.new_poly.Statement.{statement}
 use Rattle.asynchro.proofs.new_poly.Tie as tie
 
-nbr-points-requires : tie.Need-nbr-points-requires
-nbr-points-requires c κs = search needs
-
-start-index-requires : tie.Need-start-index-requires
-start-index-requires c κs = search needs
-
-checked-requires : tie.Need-checked-requires
-checked-requires c κs =
-    let a = c .before .before .args in
-    ap (λ (i : Float). changed (freshState (a .r) (a .m) (a .degree) (a .chunk) (a .channels) (a .fixed)) (a .chunk) 0 0 0 i (a .r) (a .r))
-    (c .start-index .ensures ∙ ap startOf (c .before .nbr-points .ensures))
+above-zero-requires : tie.Need-above-zero-requires
+above-zero-requires c κs = search needs
 
 returns : tie.Need-returns
-returns c = c .checked .ensures
+unfolding construct
+returns c = stop _ _ _ _ (failed (c .before .above-zero .ensures) (c .if1 .taken))
+
+at-least-one-requires : tie.Need-at-least-one-requires
+at-least-one-requires c κs = search needs
+
+returns-2 : tie.Need-returns-2
+unfolding construct
+returns-2 c =
+    let z = c .before .before in
+    pass _ _ _ _ _ (passed (z .before .above-zero .ensures) (z .if1 .left)) (
+    stop _ _ _ _ (failed (c .before .at-least-one .ensures) (c .if2 .taken)))
+
+returns-3 : tie.Need-returns-3
+unfolding construct
+returns-3 c =
+    let o = c .before in
+    let z = o .before .before in
+    pass _ _ _ _ _ (passed (z .before .above-zero .ensures) (z .if1 .left)) (
+    pass _ _ _ _ _ (passed (o .before .at-least-one .ensures) (o .if2 .left)) (
+    stop _ _ _ _ (lt-leb _ _ (c .if3 .taken))))
+
+is-ratio-requires : tie.Need-is-ratio-requires
+is-ratio-requires c κs = search needs
+
+returns-4 : tie.Need-returns-4
+unfolding construct
+returns-4 c =
+    let k = c .before .before in
+    let o = k .before in
+    let z = o .before .before in
+    pass _ _ _ _ _ (passed (z .before .above-zero .ensures) (z .if1 .left)) (
+    pass _ _ _ _ _ (passed (o .before .at-least-one .ensures) (o .if2 .left)) (
+    pass _ _ _ _ _ (le-leb _ _ (k .if3 .left)) (
+    stop _ _ _ _ (failed (c .before .is-ratio .ensures) (c .if4 .taken)))))
+
+is-channels-requires : tie.Need-is-channels-requires
+is-channels-requires c κs = search needs
+
+returns-5 : tie.Need-returns-5
+unfolding construct
+returns-5 c =
+    let t = c .before .before in
+    let k = t .before .before in
+    let o = k .before in
+    let z = o .before .before in
+    pass _ _ _ _ _ (passed (z .before .above-zero .ensures) (z .if1 .left)) (
+    pass _ _ _ _ _ (passed (o .before .at-least-one .ensures) (o .if2 .left)) (
+    pass _ _ _ _ _ (le-leb _ _ (k .if3 .left)) (
+    pass _ _ _ _ _ (passed (t .before .is-ratio .ensures) (t .if4 .left)) (
+    stop _ _ _ _ (failed (c .before .is-channels .ensures) (c .if5 .taken))))))
+
+fresh-state-requires : tie.Need-fresh-state-requires
+fresh-state-requires c κs = search needs
+
+first-lengths-requires : tie.Need-first-lengths-requires
+first-lengths-requires c κs = search needs
+
+returns-6 : tie.Need-returns-6
+unfolding construct
+returns-6 c =
+    let h = c .before .before in
+    let t = h .before .before in
+    let k = t .before .before in
+    let o = k .before in
+    let z = o .before .before in
+    let a = z .before .before .args in
+    pass _ _ _ _ _ (passed (z .before .above-zero .ensures) (z .if1 .left)) (
+    pass _ _ _ _ _ (passed (o .before .at-least-one .ensures) (o .if2 .left)) (
+    pass _ _ _ _ _ (le-leb _ _ (k .if3 .left)) (
+    pass _ _ _ _ _ (passed (t .before .is-ratio .ensures) (t .if4 .left)) (
+    pass _ _ _ _ _ (passed (h .before .is-channels .ensures) (h .if5 .left)) (
+    c .first-lengths .ensures ∙ ap firstLengths {y = freshState (a .r) (a .m) (a .degree) (a .chunk) (a .channels) (a .fixed)} (c .before .fresh-state .ensures))))))
 
 pub new-poly-spec : {M : Type 1} → statement M
-new-poly-spec = tie.close (tie.spec nbr-points-requires start-index-requires checked-requires returns)
+new-poly-spec =
+    tie.close
+    (tie.spec
+    above-zero-requires
+    returns
+    at-least-one-requires
+    returns-2
+    returns-3
+    is-ratio-requires
+    returns-4
+    is-channels-requires
+    returns-5
+    fresh-state-requires
+    first-lengths-requires
+    returns-6)

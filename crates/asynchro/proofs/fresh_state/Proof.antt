@@ -1,0 +1,16 @@
+-- `asynchro::fresh_state` meets its contract. Assumes nothing.
+use borrow.Author.Needs.{needs}
+use Rattle.asynchro.proofs.fresh_state.Statement.{statement}
+use Rattle.asynchro.proofs.fresh_state.Tie as tie
+
+nbr-points-requires : tie.Need-nbr-points-requires
+nbr-points-requires c κs = search needs
+
+start-index-requires : tie.Need-start-index-requires
+start-index-requires c κs = search needs
+
+returns : tie.Need-returns
+returns c = rw (c .start-index .ensures, c .before .nbr-points .ensures)
+
+pub fresh-state-spec : {M : Type 1} → statement M
+fresh-state-spec = tie.close (tie.spec nbr-points-requires start-index-requires returns)
