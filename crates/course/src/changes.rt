@@ -5,14 +5,12 @@ use crate::pass::Run;
 use crate::pass::refused;
 use crate::pass::run_of;
 use crate::pass::stop_told;
-use crate::plan_lines::Cursor;
-use crate::plan_lines::Next;
-use crate::plan_lines::next_entry;
-use crate::plan_lines::start;
 use asynchro::Done;
 use asynchro::Outcome;
 use options::Files;
+use schedule::Cursor;
 use schedule::Entry;
+use schedule::Next;
 
 fn plan_line(kind: u64, block: u64, value: u64, reached: u64, cursor: Cursor) -> Plan {
     Plan {
@@ -36,7 +34,7 @@ fn plan_of(entry: Entry, reached: u64, cursor: Cursor) -> Plan {
 
 // No plan, or none before its first line.
 pub fn no_plan() -> Plan {
-    plan_line(0, 0, 0, 0, start())
+    plan_line(0, 0, 0, 0, schedule::start())
 }
 
 // The next line of the plan, if there is a plan.
@@ -45,7 +43,7 @@ pub fn next_line(fd: i32, bytes: &mut [u8], plan: Plan) -> Plan {
         return plan;
     }
     let before = plan.cursor;
-    let step = next_entry(fd, bytes, before);
+    let step = schedule::next_entry(fd, bytes, before);
     let next = step.next;
     let cursor = step.cursor;
     match next {

@@ -3,7 +3,6 @@
 mod changes;
 mod pass;
 mod plan_file;
-mod plan_lines;
 mod progress;
 mod report;
 
@@ -21,7 +20,6 @@ pub use pass::stop_told;
 pub use pass::stopped;
 pub use pass::tell;
 pub use plan_file::plan_holds;
-pub use plan_lines::Cursor;
 pub use progress::progressed;
 pub use progress::second_now;
 pub use report::ended_well;

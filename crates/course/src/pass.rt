@@ -1,10 +1,10 @@
 // What is kept of a pass from block to block.
-use crate::plan_lines::Cursor;
 use error::Carried;
 use error::Refusal;
 use options::Files;
 use options::say_refused;
 use options::say_start;
+use schedule::Cursor;
 use state::State;
 use tally::Counts;
 

@@ -1,7 +1,7 @@
 // The plan's file, read line by line into a buffer that the caller lends.
+use crate::entries::Entry;
+use crate::entries::entry_of;
 use samples::least;
-use schedule::Entry;
-use schedule::entry_of;
 ghost use Prim.Native.Nat.{_+_, _≤_};
 ghost use lib.ListN.{length};
 

@@ -1,10 +1,10 @@
--- `course::plan_lines::to_front` meets its contract: the buffer keeps its length. Assumes nothing.
+-- `schedule::reading::to_front` meets its contract: the buffer keeps its length. Assumes nothing.
 use borrow.Author.Needs.{needs}
 use mathlib.Core.Path.{_≡_}
 use Prim.Native.Nat.{_-_, _≤_}
 use lib.ListN.{length}
-use Rattle.course.proofs.plan_lines.to_front.Statement.{statement}
-use Rattle.course.proofs.plan_lines.to_front.Tie as tie
+use Rattle.schedule.proofs.reading.to_front.Statement.{statement}
+use Rattle.schedule.proofs.reading.to_front.Tie as tie
 
 abbrev Inv-loop : tie.InvT-loop
 Inv-loop bytes₀ at held k₀ bytes k = (length bytes ≡ length bytes₀) × (k ≤ held)

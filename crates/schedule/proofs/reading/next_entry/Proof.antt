@@ -1,9 +1,9 @@
--- `course::plan_lines::next_entry` meets its contract: its turns are counted down. Assumes nothing.
+-- `schedule::reading::next_entry` meets its contract: its turns are counted down. Assumes nothing.
 use borrow.Author.Needs.{needs}
 use mathlib.Core.Path.{_≡_}
 use lib.ListN.{length}
-use Rattle.course.proofs.plan_lines.next_entry.Statement.{statement}
-use Rattle.course.proofs.plan_lines.next_entry.Tie as tie
+use Rattle.schedule.proofs.reading.next_entry.Statement.{statement}
+use Rattle.schedule.proofs.reading.next_entry.Tie as tie
 
 abbrev Inv-loop : tie.InvT-loop
 Inv-loop fd bytes₀ s₀ turns₀ bytes s turns = length bytes ≡ length bytes₀
