@@ -20,24 +20,17 @@ fn next(item: usize) -> usize {
     if item < 1048576 { item + 1 } else { item }
 }
 
-// A text is over, and it is the word or not.
-fn text_over(s: Search, is_word: bool) -> Search {
-    let mut found = s.found;
-    if is_word {
-        found = s.item;
-    }
-    Search {
-        item: next(s.item),
-        at: 0,
-        same: true,
-        found,
-    }
-}
-
+// One byte of the list; a mark ends a text, which was the word or not.
 fn search_step(s: Search, byte: u8, mark: u8, word: &[u8]) -> Search {
     let at = s.at;
     if byte == mark {
-        return text_over(s, s.same & (at == word.len()));
+        let is_word = s.same & (at == word.len());
+        return Search {
+            item: next(s.item),
+            at: 0,
+            same: true,
+            found: if is_word { s.item } else { s.found },
+        };
     }
     if at < word.len() {
         return Search {

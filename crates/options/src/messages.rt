@@ -1,6 +1,5 @@
 // Messages on standard error.
 use crate::lists::put_nth;
-use error::Carried;
 use error::Refusal;
 use printer::bytes_of;
 
@@ -33,15 +32,7 @@ pub fn say_nth(list: &[u8], mark: u8, n: usize) {
     say(&line[..k]);
 }
 
-// The refusals' names and what to do about each, by their numbers.
-fn say_reason(number: usize) {
-    say_nth(
-        b"InvalidRatio InvalidRelativeRatio InvalidChunkSize RatioOutOfBounds RatioBeyondPort SizeTooLarge Channels BufferShape Reach StateRecord Argument ",
-        32,
-        number,
-    );
-}
-
+// What to do about a refusal, by its number.
 fn say_hint(number: usize) {
     say_nth(
         b": the ratio must be finite and above 0
@@ -70,22 +61,22 @@ fn say_float(values: [f64; 3], count: usize, k: usize) {
     }
 }
 
-fn say_carried(carried: Carried) {
-    let values = carried.values;
-    let count = carried.count;
-    say_float(values, count, 0);
-    say_float(values, count, 1);
-    say_float(values, count, 2);
-}
-
 // A refusal with its number, its name, the floats that it carries and what to do.
 pub fn say_refused(r: Refusal) {
     let number = error::number(r);
+    let carried = error::values(r);
+    let values = carried.values;
     say(b"refused ");
     say_number(number);
     say(b" ");
-    say_reason(number as usize);
-    say_carried(error::values(r));
+    say_nth(
+        b"InvalidRatio InvalidRelativeRatio InvalidChunkSize RatioOutOfBounds RatioBeyondPort SizeTooLarge Channels BufferShape Reach StateRecord Argument ",
+        32,
+        number as usize,
+    );
+    say_float(values, carried.count, 0);
+    say_float(values, carried.count, 1);
+    say_float(values, carried.count, 2);
     say_hint(number as usize);
     say(b"\n");
 }

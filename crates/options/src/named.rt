@@ -60,11 +60,6 @@ pub fn act_at(act: Act, p: Place, usual: i32) -> Opened {
     act_from(act, &word[..n], p.from)
 }
 
-fn facts_from(word: &[u8], from: usize) -> Facts {
-    let start = printer::bytes_of(word, from);
-    file_facts::facts_at(&word[start..])
-}
-
 // What the system tells of the file, or of the descriptor `usual` where none is named.
 pub fn facts_in(p: Place, usual: i32) -> Facts {
     if p.at == 0 {
@@ -72,5 +67,6 @@ pub fn facts_in(p: Place, usual: i32) -> Facts {
     }
     let mut word = io::buffer();
     let n = os::arg(p.at, &mut word);
-    facts_from(&word[..n], p.from)
+    let start = printer::bytes_of(&word[..n], p.from);
+    file_facts::facts_at(&word[start..n])
 }

@@ -69,24 +69,12 @@ fn with_count(r: Reading, name: usize, word: &[u8]) -> Reading {
     got(r, name, n, 0)
 }
 
-// The number of a choice, 0 for none.
-fn choice_of(name: usize, word: &[u8]) -> usize {
-    if name == DEGREE {
-        return number_in(b"nearest linear cubic quintic septic ", 32, word);
-    }
-    number_in(b"in out ", 32, word)
-}
-
-// The degree or the fixed side.
-fn with_choice(r: Reading, name: usize, word: &[u8]) -> Reading {
-    let n = choice_of(name, word);
+// The number of a choice, 0 for none; `line` is the complaint where it is none.
+fn with_choice(r: Reading, name: usize, n: usize, line: usize, word: &[u8]) -> Reading {
     if n > 0 {
         return got(r, name, n as u64, 0);
     }
-    if name == DEGREE {
-        return bad(r, name, BAD_DEGREE, word);
-    }
-    bad(r, name, BAD_SIDE, word)
+    bad(r, name, line, word)
 }
 
 fn is_dash(word: &[u8]) -> bool {
@@ -116,8 +104,13 @@ pub fn with_value(r: Reading, name: usize, at: usize, from: usize, word: &[u8]) 
     if name <= TONES {
         return with_count(r, name, word);
     }
-    if name <= FIXED {
-        return with_choice(r, name, word);
+    if name == DEGREE {
+        let n = number_in(b"nearest linear cubic quintic septic ", 32, word);
+        return with_choice(r, name, n, BAD_DEGREE, word);
+    }
+    if name == FIXED {
+        let n = number_in(b"in out ", 32, word);
+        return with_choice(r, name, n, BAD_SIDE, word);
     }
     with_file(r, name, at, from, word)
 }
@@ -131,8 +124,14 @@ fn with_rates(r: Reading, input: &[u8], out: &[u8]) -> Reading {
     got(r, RATIO, text::bits_of(x), 0)
 }
 
-// One change more, if there is room for it.
-fn with_room(r: Reading, name: usize, block: u64, ratio: f64) -> Reading {
+// `--at B R` and `--ramp B R`: one change more, if there is room for it.
+fn with_change(r: Reading, name: usize, first: &[u8], second: &[u8]) -> Reading {
+    let Parsed::Number(block) = text::decimal_of(first) else {
+        return bad(r, name, BAD_COUNT, first);
+    };
+    let Number::Value(ratio) = decimals::number_of(second) else {
+        return bad(r, name, BAD_NUMBER, second);
+    };
     let k = r.changes;
     if k >= 16 {
         complain(name, TOO_MANY);
@@ -141,17 +140,6 @@ fn with_room(r: Reading, name: usize, block: u64, ratio: f64) -> Reading {
     let mut s = got(r, name, block, text::bits_of(ratio));
     s.changes = k + 1;
     s
-}
-
-// `--at B R` and `--ramp B R`.
-fn with_change(r: Reading, name: usize, first: &[u8], second: &[u8]) -> Reading {
-    let Parsed::Number(block) = text::decimal_of(first) else {
-        return bad(r, name, BAD_COUNT, first);
-    };
-    let Number::Value(ratio) = decimals::number_of(second) else {
-        return bad(r, name, BAD_NUMBER, second);
-    };
-    with_room(r, name, block, ratio)
 }
 
 // A name with two words behind it.

@@ -65,26 +65,15 @@ fn is_none(error: i32, word: &[u8]) -> bool {
     (word[0] == 45) & (word[1] == 45)
 }
 
-fn one_word(r: Reading, name: usize, at: usize, error: i32, word: &[u8]) -> Reading {
-    if is_none(error, word) {
-        return lacking(r, name, LACKS_ONE);
-    }
-    with_value(given(r, name, 2), name, at, 0, word)
-}
-
 fn read_one(r: Reading, name: usize) -> Reading {
     let mut word = io::buffer();
     let at = past(r.next, 1);
     let n = os::arg(at, &mut word);
     let error = os::errno();
-    one_word(r, name, at, error, &word[..n])
-}
-
-fn two_words(r: Reading, name: usize, error: i32, first: &[u8], second: &[u8]) -> Reading {
-    if is_none(0, first) | is_none(error, second) {
-        return lacking(r, name, LACKS_TWO);
+    if is_none(error, &word[..n]) {
+        return lacking(r, name, LACKS_ONE);
     }
-    with_two(given(r, name, 3), name, first, second)
+    with_value(given(r, name, 2), name, at, 0, &word[..n])
 }
 
 // The second word, where there is a first one.
@@ -95,7 +84,10 @@ fn read_second(r: Reading, name: usize, error: i32, first: &[u8]) -> Reading {
     let mut word = io::buffer();
     let n = os::arg(past(r.next, 2), &mut word);
     let error = os::errno();
-    two_words(r, name, error, first, &word[..n])
+    if is_none(0, first) | is_none(error, &word[..n]) {
+        return lacking(r, name, LACKS_TWO);
+    }
+    with_two(given(r, name, 3), name, first, &word[..n])
 }
 
 fn read_two(r: Reading, name: usize) -> Reading {
