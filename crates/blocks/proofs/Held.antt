@@ -2,8 +2,8 @@
 use mathlib.Core.Bool.{Bool, true, false, _&&_, not, true≢false}
 use mathlib.Core.List.{List}
 use mathlib.Core.Path.{_≡_, refl, sym, ap, _∙_}
-use Prim.Native.Nat.{ℕ, zero, suc, _+_, _*_, _/_, _%_, _<_, _≤_, min}
-use native.Mathlib.Nat.{mod-lt, mul-comm, mul-le-mul-left, div-add-mod, div-le-of-le-mul, le-div-iff-mul-le, mul-div-right, mul-mod-right}
+use Prim.Native.Nat.{ℕ, zero, suc, _+_, _*_, _/_, _<_, _≤_, min}
+use native.Mathlib.Nat.{mod-lt, mul-le-mul-left, div-add-mod, div-le-of-le-mul, le-div-iff-mul-le, mul-div-right, mul-mod-right}
 use native.Mathlib.Numerals.{add-one}
 use native.Mathlib.Omega.{arith}
 use borrow.Author.Tests.{ltb-true, ltb-false, leb-true}

@@ -7,9 +7,8 @@ use native.Mathlib.Omega.{arith}
 use borrow.Author.Tests.{ltb-true, ltb-false}
 use lib.Dec.{ltb}
 use lib.Ieee.{Float}
-use lib.ListN.{length, getD}
-use Rattle.samples.specs.Counts.{upTo}
-use Rattle.samples.specs.Frames.{placeOf, spreadTo}
+use lib.ListN.{getD}
+use Rattle.samples.specs.Frames.{spreadTo}
 use Rattle.samples.proofs.Places.{spread-others}
 use Rattle.blocks.specs.Blocks.{OthersStay, PieceRead, PiecesRead}
 

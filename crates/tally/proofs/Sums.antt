@@ -1,16 +1,13 @@
 -- Sums that stay at the largest number: the bound worked out of a capped sum is that of the sum itself. Assumes nothing.
 use mathlib.Core.Bool.{Bool, true, false, true≢false}
 use mathlib.Core.Path.{_≡_, refl, sym, _∙_, ap}
-use Prim.Native.Nat.{ℕ, _+_, _*_, _<_, _≤_, min}
-use native.Mathlib.Nat.{min-eq-left, min-eq-right, mul-le-mul}
+use Prim.Native.Nat.{ℕ, _+_, _*_, _<_, _≤_}
+use native.Mathlib.Nat.{min-eq-right, mul-le-mul}
 use native.Mathlib.Omega.{arith}
 use borrow.Author.Tests.{lt-ltb, le-ltb}
 use Rattle.tally.specs.Tally.{capped, rampOf}
 
-pub capped-low : (n : ℕ) → n ≤ 18446744073709551615 → capped n ≡ n
-capped-low n h = min-eq-left h
-
-pub capped-high : (n : ℕ) → 18446744073709551615 ≤ n → capped n ≡ 18446744073709551615
+capped-high : (n : ℕ) → 18446744073709551615 ≤ n → capped n ≡ 18446744073709551615
 capped-high n h = min-eq-right h
 
 -- a sum whose cap is small is small itself

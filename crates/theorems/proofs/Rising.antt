@@ -10,7 +10,7 @@ use lib.Ieee.Order.{round-mono}
 use lib.Ieee.Scale.{finite, grid}
 use lib.Pow.{pow-add, pow-pos}
 use Rattle.exact.specs.Doubles.{_+f_, _-f_, _/f_, count, zeroF}
-use Rattle.exact.specs.Whole.{Whole, signed, _⊕_, _⊖_, _⊙_, Same, Less, AtMost, Below, Within, Room}
+use Rattle.exact.specs.Whole.{Whole, signed, _⊕_, _⊖_, _⊙_, Same, AtMost, Below, Within, Room}
 use Rattle.exact.specs.Exact.{exact, Number}
 use Rattle.exact.specs.Rounding.{RoundOf}
 use Rattle.exact.specs.Running.{run}

@@ -1,5 +1,4 @@
 -- `blocks::ahead::put_held` meets its contract: each turn places one sample. Assumes nothing.
-use mathlib.Core.Path.{refl}
 use Prim.Native.Nat.{_≤_, _-_}
 use native.Mathlib.Omega.{arith}
 use Rattle.blocks.proofs.Held.{Puts, puts-none, puts-next, puts-done, first-place}

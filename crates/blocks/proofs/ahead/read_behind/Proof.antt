@@ -1,5 +1,4 @@
 -- `blocks::ahead::read_behind` meets its contract. Assumes nothing.
-use native.Mathlib.Omega.{arith}
 use Rattle.blocks.proofs.Held.{frame-room, frames-read}
 use borrow.Author.Needs.{needs}
 use Rattle.blocks.proofs.ahead.read_behind.Statement.{statement}

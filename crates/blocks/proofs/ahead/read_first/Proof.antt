@@ -1,5 +1,5 @@
 -- `blocks::ahead::read_first` meets its contract. Assumes nothing.
-use mathlib.Core.Path.{refl, _∙_}
+use mathlib.Core.Path.{refl}
 use native.Mathlib.Omega.{arith}
 use Rattle.samples.proofs.Taken.{fits-if, refused-if, taken-if}
 use Rattle.blocks.proofs.Held.{next-read}
