@@ -1,4 +1,4 @@
--- Moving and reading in each channel: the test of the mask, lengths, and that channels are apart. Assumes nothing.
+-- Moving and reading in each channel: the reading's test of the mask, lengths, and that channels are apart. Assumes nothing.
 use mathlib.Core.Path.{_≡_, _∙_}
 use mathlib.Core.Bool.{Bool}
 use mathlib.Core.List.{List}
@@ -7,7 +7,7 @@ use native.Mathlib.Omega.{arith}
 use lib.Ieee.{Float}
 use lib.ListN.{length, drop, length-drop}
 use Rattle.channel.specs.Mask.{isOn, whereOn}
-use Rattle.channel.specs.Moves.{moved, loaded}
+use Rattle.channel.specs.Moves.{loaded}
 use Rattle.channel.proofs.Switched.{where-long}
 use Rattle.channel.proofs.Moves.{moved-long, loaded-long}
 use Rattle.area.specs.Parts.{partOf}
@@ -15,16 +15,13 @@ use Rattle.area.specs.Moves.{movedIn, loadedIn}
 use Rattle.area.proofs.Parts.{Keeps, part-long}
 
 -- the channel's own test of the mask
-pub movedIn-is : (mask fill l2 c : ℕ) (on : Bool) (p ys : List Float) → on ≡ isOn mask c → ys ≡ whereOn on (moved fill l2 p) p → ys ≡ movedIn mask fill l2 c p
-movedIn-is mask fill l2 c on p ys u e = rw (← u) e
-
 pub loadedIn-is : (mask l2 : ℕ) (input : List Float) (share at read needed c : ℕ) (on : Bool) (q p ys : List Float)
     → on ≡ isOn mask c → q ≡ drop at (partOf share c input) → ys ≡ whereOn on (loaded l2 q read needed p) p → ys ≡ loadedIn mask l2 input share at read needed c p
 loadedIn-is mask l2 input share at read needed c on q p ys u v e = rw (← u, ← v) e
 
 -- in each channel the length stays
-pub movedIn-keeps : (mask fill l2 stride n : ℕ) → fill + l2 ≤ stride → Keeps (movedIn mask fill l2) stride n
-movedIn-keeps mask fill l2 stride n fits c l p e = where-long (isOn mask c) (moved fill l2 p) p stride (moved-long fill l2 p (omega arith) ∙ e) e
+pub movedIn-keeps : (fill l2 stride n : ℕ) → fill + l2 ≤ stride → Keeps (movedIn fill l2) stride n
+movedIn-keeps fill l2 stride n fits c l p e = moved-long fill l2 p (omega arith) ∙ e
 
 pub loadedIn-keeps : (mask l2 : ℕ) (input : List Float) (share at read needed stride n : ℕ) → n * share ≤ length input → at + read ≤ share → read ≤ needed → l2 + needed ≤ stride
     → Keeps (loadedIn mask l2 input share at read needed) stride n

@@ -8,24 +8,23 @@ ghost use Rattle.area.specs.Turns.{onePart};
 ghost use Rattle.area.specs.Moves.{movedIn, movedAll, loadedIn, loadedAll};
 
 // The move in the channel c, whose part of the working area is lent.
-fn move_part(work: &mut [f64], stride: usize, c: usize, mask: u64, fill: usize, l2: usize)
-    requires { ⌜ (c < 64) × (c * stride + stride ≤ length (now work)) ⌝ }
+fn move_part(work: &mut [f64], stride: usize, c: usize, fill: usize, l2: usize)
+    requires { ⌜ c * stride + stride ≤ length (now work) ⌝ }
     requires { ⌜ fill + l2 ≤ stride ⌝ }
-    ensures { λ _. ⌜ now (work .exit) ≡ onePart (movedIn mask fill l2) stride c (now (work .entry)) ⌝ }
+    ensures { λ _. ⌜ now (work .exit) ≡ onePart (movedIn fill l2) stride c (now (work .entry)) ⌝ }
 {
     let a = c * stride;
-    let on = channel::is_on(mask, c);
-    channel::move_channel(on, &mut work[a..a + stride], fill, l2);
+    channel::move_front(&mut work[a..a + stride], fill, l2);
 }
 
-// The move in each switched-on channel.
-pub fn move_all(work: &mut [f64], stride: usize, channels: usize, mask: u64, fill: usize, l2: usize)
-    requires { ⌜ (channels * stride ≡ length (now work)) × (channels ≤ 64) ⌝ }
+// The move in every channel, switched on or not.
+pub fn move_all(work: &mut [f64], stride: usize, channels: usize, fill: usize, l2: usize)
+    requires { ⌜ channels * stride ≡ length (now work) ⌝ }
     requires { ⌜ fill + l2 ≤ stride ⌝ }
-    ensures { λ _. ⌜ now (work .exit) ≡ movedAll mask fill l2 stride channels (now (work .entry)) ⌝ }
+    ensures { λ _. ⌜ now (work .exit) ≡ movedAll fill l2 stride channels (now (work .entry)) ⌝ }
 {
     for c in 0..channels {
-        move_part(work, stride, c, mask, fill, l2);
+        move_part(work, stride, c, fill, l2);
     }
 }
 

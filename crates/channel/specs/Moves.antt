@@ -1,4 +1,4 @@
--- Document 01, "Block run", 2: "samples fill..fill+2L move to the front. Read frames follow, then zeros up to needed input." One channel's share. Definitions only.
+-- Document 01, "Block run", 2: "samples fill..fill+2L move to the front. Read frames follow, then zeros up to needed input." One channel's share, whatever the mask. Definitions only.
 -- `paste d at s n` is d with the first n of s from place at on.
 use mathlib.Core.List.{List}
 use Prim.Native.Nat.{ℕ, _+_, _-_}

@@ -12,7 +12,7 @@ ghost use Rattle.exact.specs.Doubles.{zeroF};
 ghost use Rattle.channel.specs.Mask.{whereOn};
 ghost use Rattle.channel.specs.Moves.{moved, loaded};
 
-// The l2 samples from fill on move to the front.
+// The l2 samples from fill on move to the front: no test of the mask.
 pub fn move_front(work: &mut [f64], fill: usize, l2: usize)
     requires { ⌜ fill + l2 ≤ length (now work) ⌝ }
     ensures { λ _. ⌜ now (work .exit) ≡ moved fill l2 (now (work .entry)) ⌝ }
@@ -53,17 +53,7 @@ pub fn load(work: &mut [f64], l2: usize, input: &[f64], read: usize, needed: usi
     zero_from(work, l2 + read, needed - read);
 }
 
-// The move, where the channel is switched on.
-pub fn move_channel(on: bool, work: &mut [f64], fill: usize, l2: usize)
-    requires { ⌜ fill + l2 ≤ length (now work) ⌝ }
-    ensures { λ _. ⌜ now (work .exit) ≡ whereOn on (moved fill l2 (now (work .entry))) (now (work .entry)) ⌝ }
-{
-    if on {
-        move_front(work, fill, l2);
-    }
-}
-
-// The reading, where the channel is switched on.
+// The reading and the zeros, where the channel is switched on.
 pub fn load_channel(
     on: bool,
     work: &mut [f64],

@@ -74,8 +74,8 @@ shaped s frames mask input output work h k =
 
 -- ---- what the second pass asks; stride, l and read are what the code worked out, and `long` is the working area's length after each step
 module _ (s : State) (frames input output work : ℕ) (z : Shaped s frames input output work) (stride l : ℕ) (a : stride ≡ strideOf s) (b : l ≡ pointsIn s) where
-  pub move-asks : (long : ℕ) → long ≡ work → ((s .channels * stride ≡ long) × (s .channels ≤ 64)) × (s .fill + 2 * l ≤ stride)
-  move-asks long e = rw (a, b, e) ((z .long, omega (arith, z .channels-few)), z .fill-fits)
+  pub move-asks : (long : ℕ) → long ≡ work → (s .channels * stride ≡ long) × (s .fill + 2 * l ≤ stride)
+  move-asks long e = rw (a, b, e) (z .long, z .fill-fits)
 
   pub load-asks : (long at read : ℕ) → long ≡ work → at ≡ 0 → read ≡ readOf s frames
       → ((s .channels * stride ≡ long) × (s .channels * (input / s .channels) ≤ input) × (s .channels ≤ 64))

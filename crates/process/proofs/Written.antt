@@ -22,13 +22,13 @@ use Rattle.process.specs.Block.{workAfter, outputAfter, sizesOf, blockEn
 -- ---- the second pass: the working area, then the output on it
 module _ (s : State) (frames mask : ℕ) (input : List Float) (at : ℕ) (work : List Float) where
   work-is : (stride l read : ℕ) (moved loaded : List Float) → stride ≡ strideOf s → l ≡ pointsIn s → read ≡ readOf s frames
-      → moved ≡ movedAll mask (s .fill) (2 * l) stride (s .channels) work
+      → moved ≡ movedAll (s .fill) (2 * l) stride (s .channels) work
       → loaded ≡ loadedAll mask (2 * l) input (length input / s .channels) at read (s .input) stride (s .channels) moved → loaded ≡ workAfter s frames mask input at work
   unfolding workAfter
   work-is stride l read moved loaded a b c d e = rw (e, d, c, b, a)
 
   pub written : (to : ℕ) (output : List Float) (stride l read : ℕ) (moved loaded out : List Float) (t d : Float) → stride ≡ strideOf s → l ≡ pointsIn s → read ≡ readOf s frames
-      → moved ≡ movedAll mask (s .fill) (2 * l) stride (s .channels) work
+      → moved ≡ movedAll (s .fill) (2 * l) stride (s .channels) work
       → loaded ≡ loadedAll mask (2 * l) input (length input / s .channels) at read (s .input) stride (s .channels) moved → t ≡ stepNow s → d ≡ incrementOf s
       → out ≡ ranAll (s .degree) (s .input) mask loaded stride t d (s .index) (s .output) to (length output / s .channels) (s .channels) output
       → (loaded ≡ workAfter s frames mask input at work) × (out ≡ outputAfter s mask (workAfter s frames mask input at work) to output)

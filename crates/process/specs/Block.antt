@@ -18,11 +18,11 @@ use Rattle.process.specs.declared.Ran.{Ran}
 use Rattle.process.specs.declared.Ran.the-variants as ran
 
 -- ---- the areas
--- the working area after moving and reading, from place `at` of each share of the input
+-- the working area after the move, in every channel, and then the reading, in those that the mask has on, from place `at` of each share of the input
 unfoldable pub workAfter : State → ℕ → ℕ → List Float → ℕ → List Float → List Float
 workAfter s frames mask input at work =
     loadedAll mask (2 * pointsIn s) input (length input / s .channels) at (readOf s frames) (s .input) (strideOf s) (s .channels)
-    (movedAll mask (s .fill) (2 * pointsIn s) (strideOf s) (s .channels) work)
+    (movedAll (s .fill) (2 * pointsIn s) (strideOf s) (s .channels) work)
 
 -- the output area after the frames, from place `at` of each share, on the working area `work`
 unfoldable pub outputAfter : State → ℕ → List Float → ℕ → List Float → List Float

@@ -37,8 +37,8 @@ pub struct BlockOutcome {
     pub answer: Ran,
 }
 
-// The second pass: what the areas become. `at` and `to` are places in each share of the input and
-// of the output.
+// The second pass: what the areas become. The move comes first, in every channel; reading and output
+// follow the mask. `at` and `to` are places in each share of the input and of the output.
 fn write(
     s: State,
     frames: usize,
@@ -61,7 +61,7 @@ fn write(
     let read = plan::frames_to_read(s, frames);
     let share_in = input.len() / channels;
     let share_out = output.len() / channels;
-    area::move_all(work, stride, channels, mask, s.fill, l2);
+    area::move_all(work, stride, channels, s.fill, l2);
     area::load_all(
         work,
         stride,

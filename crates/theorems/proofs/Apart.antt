@@ -41,8 +41,8 @@ module _ (s : State) (frames mask : ℕ) (input input′ output output′ work w
     work-alike : partOf (strideOf s) c (workAfter s frames mask input 0 work) ≡ partOf (strideOf s) c (workAfter s frames mask input′ 0 work′)
     work-alike = work-part s frames mask input work (length output) h c l ∙ same ∙ sym (work-part s frames mask input′ work′ (length output′) h′ c l)
       where
-        same : loadedIn mask (2 * pointsIn s) input (length input / s .channels) 0 (readOf s frames) (s .input) c (movedIn mask (s .fill) (2 * pointsIn s) c (partOf (strideOf s) c work))
-            ≡ loadedIn mask (2 * pointsIn s) input′ (length input′ / s .channels) 0 (readOf s frames) (s .input) c (movedIn mask (s .fill) (2 * pointsIn s) c (partOf (strideOf s) c work′))
+        same : loadedIn mask (2 * pointsIn s) input (length input / s .channels) 0 (readOf s frames) (s .input) c (movedIn (s .fill) (2 * pointsIn s) c (partOf (strideOf s) c work))
+            ≡ loadedIn mask (2 * pointsIn s) input′ (length input′ / s .channels) 0 (readOf s frames) (s .input) c (movedIn (s .fill) (2 * pointsIn s) c (partOf (strideOf s) c work′))
         same = rw (← i, ← a .2) (loadedIn-apart mask (2 * pointsIn s) input input′ (length input / s .channels) 0 (readOf s frames) (s .input) c _ (a .0))
 
     output-alike : partOf (length output / s .channels) c (outputAfter s mask (workAfter s frames mask input 0 work) 0 output)

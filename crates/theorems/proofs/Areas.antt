@@ -14,8 +14,8 @@ use Rattle.asynchro_fast.proofs.Laws.{before-points}
 use Rattle.state.specs.declared.State.{State}
 use Rattle.state.specs.Record.{pointsIn, stepNow}
 use Rattle.channel.specs.Mask.{isOn}
-use Rattle.channel.specs.Moves.{moved, loaded}
-use Rattle.channel.proofs.Moves.{moved-long, moved-front, moved-rest, loaded-parts}
+use Rattle.channel.specs.Moves.{moved}
+use Rattle.channel.proofs.Moves.{moved-parts, moved-long, moved-front, moved-rest, loaded-parts}
 use Rattle.channel.proofs.Switched.{where-on, where-off}
 use Rattle.area.specs.Parts.{partOf}
 use Rattle.area.specs.Moves.{movedIn, loadedIn, movedAll}
@@ -32,7 +32,7 @@ use Rattle.plan.proofs.Shape.{Shaped, shaped}
 use Rattle.process.specs.declared.Sizes.{Sizes}
 use Rattle.process.specs.Block.{Block, workAfter, outputAfter, blockEnd, blockOf}
 use Rattle.position.proofs.Accepted.{passed}
-use Rattle.theorems.specs.Block.{indexAt, Frame, refreshed}
+use Rattle.theorems.specs.Block.{indexAt, Frame, shifted, refreshed}
 use Rattle.theorems.proofs.Places.{Found, found}
 
 -- an accepted block's areas have their shape
@@ -48,16 +48,16 @@ module _ (s : State) (frames mask : ℕ) (input work : List Float) (out : ℕ) (
   room = le-of-eq (h .long)
 
   abbrev moves : ℕ → List Float → List Float
-  moves = movedIn mask (s .fill) (2 * pointsIn s)
+  moves = movedIn (s .fill) (2 * pointsIn s)
 
   abbrev reads : ℕ → List Float → List Float
   reads = loadedIn mask (2 * pointsIn s) input (length input / s .channels) 0 (readOf s frames) (s .input)
 
   abbrev front : List Float
-  front = movedAll mask (s .fill) (2 * pointsIn s) (strideOf s) (s .channels) work
+  front = movedAll (s .fill) (2 * pointsIn s) (strideOf s) (s .channels) work
 
   moves-keeps : Keeps moves (strideOf s) (s .channels)
-  moves-keeps = movedIn-keeps mask (s .fill) (2 * pointsIn s) (strideOf s) (s .channels) (h .fill-fits)
+  moves-keeps = movedIn-keeps (s .fill) (2 * pointsIn s) (strideOf s) (s .channels) (h .fill-fits)
 
   reads-keeps : Keeps reads (strideOf s) (s .channels)
   reads-keeps =
@@ -76,7 +76,7 @@ module _ (s : State) (frames mask : ℕ) (input work : List Float) (out : ℕ) (
 
   -- a channel's part depends on nothing but that part and the channel's share of the input
   pub work-part : (c : ℕ) → c < s .channels → partOf (strideOf s) c (workAfter s frames mask input 0 work)
-      ≡ loadedIn mask (2 * pointsIn s) input (length input / s .channels) 0 (readOf s frames) (s .input) c (movedIn mask (s .fill) (2 * pointsIn s) c (partOf (strideOf s) c work))
+      ≡ loadedIn mask (2 * pointsIn s) input (length input / s .channels) 0 (readOf s frames) (s .input) c (movedIn (s .fill) (2 * pointsIn s) c (partOf (strideOf s) c work))
   unfolding workAfter
   work-part c l = part-each reads (strideOf s) (s .channels) front reads-keeps front-room c l ∙ ap (reads c) (part-each moves (strideOf s) (s .channels) work moves-keeps room c l)
 
@@ -142,9 +142,10 @@ module _ (s : State) (frames mask : ℕ) (input output work : List Float) where
         rw zero-add at (run-beyond (s .degree) (s .input) mask (strideOf s) (stepNow s) (incrementOf s) (s .index) (s .output) 0 (length output / s .channels) (s .channels)
         (rw zero-add (h .written-out .enough)) workThen output (le-of-eq (h .written-out .whole)) c l e)
 
-    pub work-off-then : shapes → isOn mask c ≡ false → workIn c workThen ≡ workIn c work
+    pub work-off-then : shapes → isOn mask c ≡ false → workIn c workThen ≡ shifted s (workIn c work)
     work-off-then h e =
-        work-part s frames mask input work (length output) h c l ∙ where-off (isOn mask c) _ (movedIn mask (s .fill) (2 * pointsIn s) c (workIn c work)) e ∙ where-off (isOn mask c) _ (workIn c work) e
+        work-part s frames mask input work (length output) h c l ∙ where-off (isOn mask c) _ (moved (s .fill) (2 * pointsIn s) (workIn c work)) e
+        ∙ moved-parts (s .fill) (2 * pointsIn s) (workIn c work)
 
     pub area-then : shapes → isOn mask c ≡ true → workIn c workThen ≡ refreshed s frames (inputIn c) (workIn c work)
     area-then h e =
@@ -157,7 +158,7 @@ module _ (s : State) (frames mask : ℕ) (input output work : List Float) where
         let holds : l2 + s .input ≤ length m = rw (moved-long (s .fill) l2 w fits, long) (h .input-fits) in
         let rest : drop (l2 + s .input) m ≡ drop (l2 + s .input) w = sym (drop-drop (s .input) l2 m) ∙ ap (drop (s .input)) (moved-rest (s .fill) l2 w fits) ∙ drop-drop (s .input) l2 w in
         work-part s frames mask input work (length output) h c l
-        ∙ where-on (isOn mask c) _ _ e ∙ ap (loaded l2 (inputIn c) (readOf s frames) (s .input)) (where-on (isOn mask c) _ _ e)
+        ∙ where-on (isOn mask c) _ _ e
         ∙ loaded-parts l2 (inputIn c) (readOf s frames) (s .input) m holds (h .read-most) has
         ∙ rw (moved-front (s .fill) l2 w fits, rest)
 

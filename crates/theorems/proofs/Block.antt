@@ -12,7 +12,7 @@ use Rattle.area.specs.Parts.{partOf}
 use Rattle.plan.specs.Plan.{strideOf}
 use Rattle.process.specs.declared.Sizes.{Sizes}
 use Rattle.process.specs.Block.{Block, blockOf}
-use Rattle.theorems.specs.Block.{Frame, refreshed}
+use Rattle.theorems.specs.Block.{Frame, shifted, refreshed}
 use Rattle.theorems.proofs.Areas as areas
 
 module _ (s : State) (frames mask : ℕ) (input output work : List Float) where
@@ -48,13 +48,17 @@ module _ (s : State) (frames mask : ℕ) (input output work : List Float) where
     pub output-off-stays : isOn mask c ≡ false → outputIn c (left .output) ≡ outputIn c output
     output-off-stays e = areas.every-block s frames mask input output work (λ o w. outputIn c o ≡ outputIn c output) refl (λ h. areas.off-then s frames mask input output work c l h e)
 
-    -- "A switched-off channel's working area is untouched."
-    pub work-off-stays : isOn mask c ≡ false → workIn c (left .work) ≡ workIn c work
-    work-off-stays e = areas.every-block s frames mask input output work (λ o w. workIn c w ≡ workIn c work) refl (λ h. areas.work-off-then s frames mask input output work c l h e)
+    -- ---- an accepted block, in a switched-off channel
+    -- document 02, R-1: its working area is the moved one, with nothing read or zeroed, and its share of the output is as it was
+    pub muted-is : (u : Sizes) → left .said ≡ given u → isOn mask c ≡ false
+        → (workIn c (left .work) ≡ shifted s (workIn c work)) × (outputIn c (left .output) ≡ outputIn c output)
+    muted-is u a e =
+        areas.accepted-block s frames mask input output work (λ o w. (workIn c w ≡ shifted s (workIn c work)) × (outputIn c o ≡ outputIn c output)) u a
+        (λ h r. (areas.work-off-then s frames mask input output work c l h e, areas.off-then s frames mask input output work c l h e))
 
     -- ---- an accepted block, in a switched-on channel
     module _ (u : Sizes) (a : left .said ≡ given u) (e : isOn mask c ≡ true) where
-      -- "In each switched-on channel, samples fill..fill+2L move to the front. Read frames follow, then zeros up to needed input."
+      -- "samples fill..fill+2L move to the front. Read frames follow, then zeros up to needed input."
       pub work-on-is : workIn c (left .work) ≡ refreshed s frames (inputIn c) (workIn c work)
       work-on-is =
           areas.accepted-block s frames mask input output work (λ o w. workIn c w ≡ refreshed s frames (inputIn c) (workIn c work)) u a

@@ -1,4 +1,4 @@
--- Document 01, "Block run", for the claims: where a frame's neighbours lie, in whole numbers, what its value is, and a channel's working area once it is moved and read. Definitions only.
+-- Document 01, "Block run", for the claims: where a frame's neighbours lie, in whole numbers, what its value is, and a channel's working area once it is moved, and once it is moved and read. Definitions only.
 -- A pair (a, b) of natural numbers stands for a - b. A double's exact value is a whole number of 2 ^ -1074: 2 ^ 1074 of these make one.
 use mathlib.Core.List.{List, _++_}
 use mathlib.Core.Logic.{_⊎_}
@@ -53,6 +53,10 @@ pub record Frame (s : State) (work : List Float) (f : ℕ) (y : Float) : Type 0 
   pub begins : Same (place, 0) (firstFrom (s .degree) floor)
   pub ends : place + pointsIn s ≤ 2 * pointsIn s + s .input
   pub value : y ≡ interpOf (s .degree) (indexAt s f -f floorOf (indexAt s f)) (take (pointsIn s) (drop place work))
+
+-- "samples fill..fill+2L move to the front": of one channel's working area; what lies beyond 2L stays
+abbrev pub shifted : State → List Float → List Float
+shifted s work = take (2 * pointsIn s) (drop (s .fill) work) ++ drop (2 * pointsIn s) work
 
 -- "samples fill..fill+2L move to the front. Read frames follow, then zeros up to needed input": of one channel's input and working area; what lies beyond stays
 abbrev pub refreshed : State → ℕ → List Float → List Float → List Float

@@ -11,10 +11,10 @@ use Rattle.area.proofs.move_all.Statement.{statement}
 use Rattle.area.proofs.move_all.Tie as tie
 
 abbrev Inv-loop : tie.InvT-loop
-Inv-loop work₀ stride channels mask fill l2 c₀ work c = (c ≤ channels) × Parted (movedIn mask fill l2) stride work₀ work c
+Inv-loop work₀ stride channels fill l2 c₀ work c = (c ≤ channels) × Parted (movedIn fill l2) stride work₀ work c
 
 abbrev μ-loop : tie.MeasureT-loop
-μ-loop work₀ stride channels mask fill l2 c₀ work c = channels - c
+μ-loop work₀ stride channels fill l2 c₀ work c = channels - c
 
 loop-holds : tie.Need-loop-holds Inv-loop μ-loop
 loop-holds c = (omega arith, parted-none _ _ _)
