@@ -11,7 +11,7 @@ isOn mask c = eqb (mask / 2 ^ c % 2) 1
 abbrev pub maskFits : ℕ → ℕ → Bool
 maskFits mask channels = eqb (mask / 2 ^ channels) 0
 
--- what is done in a switched-on channel; a switched-off one stays
+-- `new` where the channel is switched on, `old` where it is off
 abbrev pub whereOn : {A : Type 0} → Bool → A → A → A
 whereOn true new old = new
 whereOn false new old = old

@@ -1,4 +1,4 @@
--- Document 01, "Block run" and reset: each call as one outcome (what it says, the record, the output area, the working area) for every input. Definitions only.
+-- Document 01, "Block run" (2 as R-1 of document 02 has it) and reset: each call as one outcome (what it says, the record, the output area, the working area) for every input. Definitions only.
 use mathlib.Core.List.{List}
 use Prim.Native.Nat.{ℕ, _*_, _/_}
 use lib.Ieee.{Float}
@@ -18,7 +18,7 @@ use Rattle.process.specs.declared.Ran.{Ran}
 use Rattle.process.specs.declared.Ran.the-variants as ran
 
 -- ---- the areas
--- the working area after the move, in every channel, and then the reading, in those that the mask has on, from place `at` of each share of the input
+-- document 02, R-1: the move in every channel; then the reading, from place `at` of each share of the input, and the zeros, in those that the mask has on
 unfoldable pub workAfter : State → ℕ → ℕ → List Float → ℕ → List Float → List Float
 workAfter s frames mask input at work =
     loadedAll mask (2 * pointsIn s) input (length input / s .channels) at (readOf s frames) (s .input) (strideOf s) (s .channels)

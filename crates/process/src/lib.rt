@@ -37,8 +37,8 @@ pub struct BlockOutcome {
     pub answer: Ran,
 }
 
-// The second pass: what the areas become. The move comes first, in every channel; reading and output
-// follow the mask. `at` and `to` are places in each share of the input and of the output.
+// The second pass: what the areas become. The move comes first, in every channel; reading, zeros and
+// output follow the mask. `at` and `to` are places in each share of the input and of the output.
 fn write(
     s: State,
     frames: usize,

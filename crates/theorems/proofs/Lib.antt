@@ -7,6 +7,7 @@ mod Areas
 mod Indices
 mod Rising
 pub mod Block
+pub mod Muted
 pub mod Reach
 pub mod Refused
 pub mod Apart
