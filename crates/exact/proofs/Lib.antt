@@ -1,4 +1,4 @@
--- What a rounding costs: one rounding, sums, products, quotients, comparisons, running sums. Assumes nothing.
+-- What a rounding costs: one rounding, sums, products, quotients, comparisons, running sums; and a NaN's test. Assumes nothing.
 pub mod Whole
 pub mod Exact
 pub mod Rounding
@@ -8,3 +8,4 @@ pub mod Order
 pub mod Running
 pub mod Integers
 pub mod Doubles
+pub mod Nans

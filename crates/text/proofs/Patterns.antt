@@ -6,7 +6,7 @@ use borrow.Author.Tests.{lt-ltb, le-ltb}
 use lib.Dec.{T}
 use lib.Ieee.{Float, nan, inf, fin, binary64, isNan, ne, div, toBits, ofBits, nanBits, top, hid, ones}
 use lib.Ieee.Bits.{nanBits-is, nanBits-above}
-use lib.Ieee.Compare.{differs-from-itself, nan-differs}
+use lib.Ieee.Compare.{differs-from-itself}
 use Rattle.exact.specs.Doubles.{zeroF}
 
 pub nan-told : (x : Float) → ne x x ≡ true → 0x7ff8_0000_0000_0000 ≡ toBits binary64 x
@@ -16,12 +16,6 @@ nan-told x h = ap (toBits binary64) (sym (differs-from-itself x (subst T (sym h)
 -- the two truth values differ
 pub apart : true ≡ false → ⊥
 apart e = subst T e tt
-
-pub no-nan : (x : Float) → ne x x ≡ false → T (not (isNan x))
-unfolding isNan
-no-nan nan h = absurd (apart (sym nan-differs ∙ h))
-no-nan (inf s) h = tt
-no-nan (fin s m e) h = tt
 
 only-nan : (x : Float) → isNan x ≡ true → x ≡ nan
 unfolding isNan

@@ -1,6 +1,7 @@
 -- `text::bits::bits_of` meets its contract. Assumes nothing.
 use borrow.Author.Needs.{needs}
-use Rattle.text.proofs.Patterns.{nan-told, no-nan}
+use Rattle.exact.proofs.Nans.{no-nan}
+use Rattle.text.proofs.Patterns.{nan-told}
 use Rattle.text.proofs.bits.bits_of.Statement.{statement}
 use Rattle.text.proofs.bits.bits_of.Tie as tie
 
