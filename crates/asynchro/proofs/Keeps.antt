@@ -17,9 +17,10 @@ use Rattle.sizes.specs.declared.FixedAsync.the-variants.{Input, Output}
 use Rattle.state.specs.declared.State.{State}
 use Rattle.sizes.specs.Bounds.{isRatio, isChannels, isChunk, isSize}
 use Rattle.sizes.specs.Sizes.{maxInput, maxOutput, isFrames}
-use Rattle.state.specs.Record.{maxInputOf, maxOutputOf, countsHold, maximaHold, isState, updateLengths}
+use Rattle.state.specs.Record.{stepOf, maxInputOf, maxOutputOf, countsHold, isStep, maximaHold, isState, updateLengths}
 use Rattle.asynchro.specs.Calls.{endOf, freshState, withFill, filled, firstLengths, construct, relativeHolds, withRatio, applied, setRatio, setRelative, withChunk, chunked, setChunk}
 use Rattle.state.proofs.Points.{points-between}
+use Rattle.state.proofs.Steps.{fresh-step}
 use Rattle.sizes.proofs.Start.{start-inside}
 use Rattle.sizes.proofs.Read.{counted, none-held}
 use Rattle.state.proofs.Keeps.{update-keeps}
@@ -35,11 +36,23 @@ ratio-ready : (s : State) (r : Float) (ramp : Bool) → isState s ≡ true → i
 ratio-ready s r ramp h k =
     let v = valid s h in
     let t = tests s h .0 in
-    record { counts = t .counts; ratios = join (join (join (v .original-ratio) (go ramp (v .current-ratio))) k) (v .m-holds); maxima = t .maxima; fill = t .fill; index = t .index }
+    let u = both (isStep (s .now) (s .current)) (isStep (s .then) (s .target)) (t .steps) in
+    record {
+      counts = t .counts;
+      ratios = join (join (join (v .original-ratio) (go ramp (v .current-ratio))) k) (v .m-holds);
+      steps = join (step ramp (u .0)) (fresh-step r k);
+      maxima = t .maxima;
+      fill = t .fill;
+      index = t .index;
+    }
   where
     go : (b : Bool) → isRatio (s .current) ≡ true → isRatio (cond b (s .current) r) ≡ true
     go true c = c
     go false c = k
+
+    step : (b : Bool) → isStep (s .now) (s .current) ≡ true → isStep (cond b (s .now) (stepOf r)) (cond b (s .current) r) ≡ true
+    step true c = c
+    step false c = fresh-step r k
 
 applied-keeps : (s t : State) (ok : Bool) (r : Float) (ramp : Bool) → applied s ok r ramp ≡ given t → isState t ≡ true
 applied-keeps s t ok r ramp e =
@@ -68,7 +81,7 @@ chunk-ready s n h k =
     let t = tests s h .0 in
     let d = both (leb 1 n) (leb n (s .chunk0)) k in
     let channels : isChannels (s .channels) ≡ true = join (le-leb 1 (s .channels) (v .channels-some)) (le-leb (s .channels) 16 (v .channels-few)) in
-    record { counts = counts-join (withChunk s n) channels (leb-true 1 n (d .0)) (leb-true n (s .chunk0) (d .1)) (v .chunk0-few); ratios = t .ratios; maxima = t .maxima; fill = t .fill; index = t .index }
+    record { counts = counts-join (withChunk s n) channels (leb-true 1 n (d .0)) (leb-true n (s .chunk0) (d .1)) (v .chunk0-few); ratios = t .ratios; steps = t .steps; maxima = t .maxima; fill = t .fill; index = t .index }
 
 pub chunk-keeps : (s : State) (n : ℕ) → isState s ≡ true → isState (setChunk s n .state) ≡ true
 chunk-keeps s n h = end-keeps s (chunked s n) h (λ t e.
@@ -91,6 +104,7 @@ fresh-ready r m d c ch f hm hc hr hch x =
     record {
       counts = counts-join s hch (leb-true 1 c hc) (le-refl c) (chunk-few f (pointsOf d) c r m (y .0) (y .1));
       ratios = join (join (join hr hr) hr) hm;
+      steps = join (fresh-step r hr) (fresh-step r hr);
       maxima = x;
       fill = none-held (maxInputOf s) (y .0);
       index = start-inside (pointsOf d) (omega (arith, points-between d .1));
@@ -102,7 +116,7 @@ fill-keeps s h =
     let t = tests s h .0 in
     let n = tests s h .1 in
     passes (withFill s (s .input))
-    (record { counts = t .counts; ratios = t .ratios; maxima = t .maxima; fill = n .input-most; index = t .index })
+    (record { counts = t .counts; ratios = t .ratios; steps = t .steps; maxima = t .maxima; fill = n .input-most; index = t .index })
     (record { input = n .input; output = n .output; input-most = n .input-most })
 
 filled-keeps : (d : Said State) (s : State) → ((t : State) → d ≡ given t → isState t ≡ true) → filled d ≡ given s → isState s ≡ true

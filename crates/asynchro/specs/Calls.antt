@@ -15,7 +15,7 @@ use Rattle.asynchro.specs.declared.Done.the-variants as done
 use Rattle.asynchro.specs.declared.Outcome.{Outcome}
 use Rattle.sizes.specs.Bounds.{isRatio, isChannels}
 use Rattle.sizes.specs.Sizes.{startOf}
-use Rattle.state.specs.Record.{maximaHold, isState, changed, updateLengths}
+use Rattle.state.specs.Record.{stepOf, maximaHold, isState, changed, updateLengths}
 
 -- What a call on a record leaves: the record, and what it says.
 pub record Result (A : Type 0) : Type 0 where
@@ -31,11 +31,27 @@ endOf s (refused n vs) = record { state = s; said = refused n vs }
 -- the record before its sizes are worked out
 abbrev pub freshState : Float → Float → PolynomialDegree → ℕ → ℕ → FixedAsync → State
 freshState r m degree chunk channels fixed =
-    record { channels = channels; chunk = chunk; chunk0 = chunk; input = 0; output = 0; fill = 0; index = startOf (pointsOf degree); original = r; current = r; target = r; m = m; degree = degree; fixed = fixed }
+    record {
+      channels = channels;
+      chunk = chunk;
+      chunk0 = chunk;
+      input = 0;
+      output = 0;
+      fill = 0;
+      index = startOf (pointsOf degree);
+      original = r;
+      current = r;
+      target = r;
+      now = stepOf r;
+      then = stepOf r;
+      m = m;
+      degree = degree;
+      fixed = fixed;
+    }
 
 -- "Fill starts at the needed input."
 abbrev pub withFill : State → ℕ → State
-withFill s n = changed s (s .chunk) (s .input) (s .output) n (s .index) (s .current) (s .target)
+withFill s n = changed s (s .chunk) (s .input) (s .output) n (s .index) (s .current) (s .target) (s .now) (s .then)
 
 abbrev pub filled : Said State → Said State
 filled (given s) = given (withFill s (s .input))
@@ -61,9 +77,9 @@ construct r m degree chunk channels fixed =
 abbrev pub relativeHolds : Float → Float → Bool
 relativeHolds m rel = le (oneF /f m) rel && le rel m
 
--- "Both set the target. Without ramp they set the current ratio too."
+-- "Both set the target. Without ramp they set the current ratio too." R-2: with each ratio its step
 abbrev pub withRatio : State → Float → Bool → State
-withRatio s r ramp = changed s (s .chunk) (s .input) (s .output) (s .fill) (s .index) (cond ramp (s .current) r) r
+withRatio s r ramp = changed s (s .chunk) (s .input) (s .output) (s .fill) (s .index) (cond ramp (s .current) r) r (cond ramp (s .now) (stepOf r)) (stepOf r)
 
 -- the new ratio, which passes under 4 where `accepted` holds; "in both forms provided is the new ratio"
 abbrev pub applied : State → Bool → Float → Bool → Said State
@@ -83,7 +99,7 @@ setRelative s rel ramp = endOf s (applied s (aboveZero (s .original *f rel) && r
 
 -- ---- chunk setting: 10, 3, 6
 abbrev pub withChunk : State → ℕ → State
-withChunk s n = changed s n (s .input) (s .output) (s .fill) (s .index) (s .current) (s .target)
+withChunk s n = changed s n (s .input) (s .output) (s .fill) (s .index) (s .current) (s .target) (s .now) (s .then)
 
 -- "chunk 0; on a later setting also above the construction chunk"
 abbrev pub chunked : State → ℕ → Said State

@@ -68,6 +68,7 @@ fn fresh_state(
 ) -> State
     ensures { λ s. ⌜ s ≡ freshState r m degree chunk channels fixed ⌝ }
 {
+    let step = state::step_of(r);
     State {
         channels,
         chunk,
@@ -79,6 +80,8 @@ fn fresh_state(
         original: r,
         current: r,
         target: r,
+        now: step,
+        then: step,
         m,
         degree,
         fixed,
@@ -138,7 +141,7 @@ fn relative_ratio_in_bounds(m: f64, rel: f64) -> bool
     (rel >= 1.0 / m) & (rel <= m)
 }
 
-// The new ratio r; `accepted` says that it passes under 4.
+// The new ratio r and its step; `accepted` says that it passes under 4.
 fn apply_ratio(s: State, accepted: bool, r: f64, ramp: bool) -> Made
     ensures { λ t. ⌜ saidMade t ≡ applied s accepted r ramp ⌝ }
 {
@@ -151,10 +154,13 @@ fn apply_ratio(s: State, accepted: bool, r: f64, ramp: bool) -> Made
     if !state::is_ratio(r) {
         return Made::Refused(Refusal::RatioBeyondPort(r));
     }
+    let step = state::step_of(r);
     let mut next = s;
     next.target = r;
+    next.then = step;
     if !ramp {
         next.current = r;
+        next.now = step;
     }
     state::update_lengths(next)
 }

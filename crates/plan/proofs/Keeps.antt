@@ -6,24 +6,27 @@ use native.Mathlib.Nat.{le-refl, le-trans}
 use native.Mathlib.Omega.{arith}
 use borrow.Author.Tests.{le-leb}
 use Rattle.error.specs.Refusals.{given}
-use Rattle.error.proofs.Ladder.{join, accepted}
+use Rattle.error.proofs.Ladder.{both, join, accepted}
 use Rattle.sizes.specs.Bounds.{isIndex, isChannels, isChunk}
 use Rattle.sizes.proofs.Start.{start-inside}
 use Rattle.state.specs.declared.State.{State}
-use Rattle.state.specs.Record.{pointsIn, isState}
+use Rattle.state.specs.Record.{pointsIn, isStep, isState}
 use Rattle.state.proofs.Points.{points-few}
+use Rattle.state.proofs.Steps.{fresh-step}
 use Rattle.state.proofs.Valid.{Ready, tests, valid}
 use Rattle.state.proofs.Keeps.{update-keeps}
 use Rattle.plan.specs.Plan.{workHolds, shapeHolds, reachHolds, afterBlock, planned, restored, resetting}
 
--- ---- the block: the fill becomes the needed input, which the maximum holds; the current ratio becomes the target
+-- ---- the block: the fill becomes the needed input, which the maximum holds; the current ratio and its step become the target's
 block-ready : (s : State) → isState s ≡ true → isIndex (afterBlock s .index) ≡ true → Ready (afterBlock s)
 block-ready s h index-inside =
     let v = valid s h in
     let t = tests s h in
+    let then = both (isStep (s .now) (s .current)) (isStep (s .then) (s .target)) (t .0 .steps) .1 in
     record {
       counts = t .0 .counts;
       ratios = join (join (join (v .original-ratio) (v .target-ratio)) (v .target-ratio)) (v .m-holds);
+      steps = join then then;
       maxima = t .0 .maxima;
       fill = t .1 .input-most;
       index = index-inside;
@@ -38,7 +41,7 @@ block-keeps s t frames mask input output work index-inside e =
     let c = accepted (reachHolds s) _ _ _ t (b .1) in
     update-keeps (afterBlock s) t (block-ready s (a .0) index-inside) (c .1)
 
--- ---- reset: the chunk becomes the construction chunk, the ratios the original, the index the start
+-- ---- reset: the chunk becomes the construction chunk, the ratios the original, the steps its step, the index the start
 reset-ready : (s : State) → isState s ≡ true → Ready (restored s)
 reset-ready s h =
     let v = valid s h in
@@ -49,6 +52,7 @@ reset-ready s h =
     record {
       counts = join (join (join channels chunk) chunk) (le-leb (s .chunk0) (s .chunk0) (le-refl (s .chunk0)));
       ratios = join (join (join r r) r) (v .m-holds);
+      steps = join (fresh-step (s .original) r) (fresh-step (s .original) r);
       maxima = t .maxima;
       fill = t .fill;
       index = start-inside (pointsIn s) (omega (arith, points-few (s .degree)));

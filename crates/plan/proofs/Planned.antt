@@ -10,7 +10,7 @@ use Rattle.error.specs.Refusals.{Said, refused}
 use Rattle.error.proofs.Ladder.{pass, stop}
 use Rattle.sizes.specs.Sizes.{startOf}
 use Rattle.state.specs.declared.State.{State}
-use Rattle.state.specs.Record.{pointsIn, stepNow, stepThen, isState, changed, updateLengths}
+use Rattle.state.specs.Record.{pointsIn, stepOf, stepNow, stepThen, isState, changed, updateLengths}
 use Rattle.path.specs.Path.{pathAt}
 use Rattle.path.specs.Places.{shiftOf, lastOf, allReach}
 use Rattle.plan.specs.Plan.{shapeHolds, incrementOf, reachHolds, indexAfter, afterBlock, planned, restored}
@@ -29,7 +29,7 @@ pub look-is : (s : State) (t d i : Float) (b : Bool) → t ≡ stepNow s → d �
 look-is s t d i b e f g h = (rw (g, e, f), rw (h, e, f))
 
 pub after-is : (s : State) (i n : Float) → i ≡ indexAfter s → n ≡ count (s .input)
-    → changed s (s .chunk) (s .input) (s .output) (s .input) (i -f n) (s .target) (s .target) ≡ afterBlock s
+    → changed s (s .chunk) (s .input) (s .output) (s .input) (i -f n) (s .target) (s .target) (s .then) (s .then) ≡ afterBlock s
 after-is s i n h e = rw (h, e)
 
 -- ---- a block's ladder, rung by rung
@@ -51,6 +51,6 @@ module _ (s : State) (frames mask input output work : ℕ) where
   block-made x a b c h = pass _ _ _ _ _ a (pass _ _ _ _ _ b (pass _ _ _ _ _ c h))
 
 -- ---- reset
-pub restored-is : (s : State) (l : ℕ) (i : Float) → l ≡ pointsIn s → i ≡ startOf l
-    → changed s (s .chunk0) (s .input) (s .output) (s .fill) i (s .original) (s .original) ≡ restored s
-restored-is s l i h e = rw (e, h)
+pub restored-is : (s : State) (t i : Float) (l : ℕ) → t ≡ stepOf (s .original) → l ≡ pointsIn s → i ≡ startOf l
+    → changed s (s .chunk0) (s .input) (s .output) (s .fill) i (s .original) (s .original) t t ≡ restored s
+restored-is s t i l k h e = rw (e, h, k)

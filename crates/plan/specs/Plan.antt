@@ -8,7 +8,7 @@ use Rattle.exact.specs.Doubles.{_-f_, _/f_, count, zeroF}
 use Rattle.error.specs.Refusals.{Said, unless}
 use Rattle.sizes.specs.Sizes.{framesOf, startOf}
 use Rattle.state.specs.declared.State.{State}
-use Rattle.state.specs.Record.{pointsIn, stepNow, stepThen, maxInputOf, isState, changed, updateLengths}
+use Rattle.state.specs.Record.{pointsIn, stepOf, stepNow, stepThen, maxInputOf, isState, changed, updateLengths}
 use Rattle.channel.specs.Mask.{maskFits}
 use Rattle.path.specs.declared.Moment.{Moment}
 use Rattle.path.specs.Path.{pathAt}
@@ -37,7 +37,7 @@ shapeHolds s frames mask input output work =
     shareHolds s input (readOf s frames) && shareHolds s output (s .output) && workHolds s work && maskFits mask (s .channels)
 
 -- ---- the run
--- "t = 1/r1; d = (1/r2 - 1/r1)/out, unused when out is 0"
+-- "t = 1/r1; d = (1/r2 - 1/r1)/out, unused when out is 0", of the stored steps
 abbrev pub incrementOf : State → Float
 incrementOf s = cond (eqb (s .output) 0) zeroF ((stepThen s -f stepNow s) /f count (s .output))
 
@@ -49,9 +49,9 @@ reachHolds s = allReach (shiftOf (s .degree)) (lastOf (s .degree) (s .input)) (s
 abbrev pub indexAfter : State → Float
 indexAfter s = pathAt (stepNow s) (incrementOf s) (s .index) (s .output) .index
 
--- "The new index is the index minus needed input. Fill becomes needed input. Current ratio becomes target, even with no frame."
+-- "The new index is the index minus needed input. Fill becomes needed input. Current ratio becomes target, even with no frame." R-2: and its step with it
 abbrev pub afterBlock : State → State
-afterBlock s = changed s (s .chunk) (s .input) (s .output) (s .input) (indexAfter s -f count (s .input)) (s .target) (s .target)
+afterBlock s = changed s (s .chunk) (s .input) (s .output) (s .input) (indexAfter s -f count (s .input)) (s .target) (s .target) (s .then) (s .then)
 
 -- the record that the block leaves: 10, 8, 9, 6
 unfoldable pub planned : State → ℕ → ℕ → ℕ → ℕ → ℕ → Said State
@@ -63,9 +63,9 @@ planned s frames mask input output work =
     (updateLengths (afterBlock s))))
 
 -- ---- reset: 10, 8 for a working area of the wrong length, 6
--- "Reset restores ratio, chunk, index and sizes, .., and does not touch the fill."
+-- "Reset restores ratio, chunk, index and sizes, .., and does not touch the fill." R-2: and the steps
 abbrev pub restored : State → State
-restored s = changed s (s .chunk0) (s .input) (s .output) (s .fill) (startOf (pointsIn s)) (s .original) (s .original)
+restored s = changed s (s .chunk0) (s .input) (s .output) (s .fill) (startOf (pointsIn s)) (s .original) (s .original) (stepOf (s .original)) (stepOf (s .original))
 
 unfoldable pub resetting : State → ℕ → Said State
 unfolding unless

@@ -102,6 +102,7 @@ fn after_block(s: State, index: f64) -> State
     next.fill = s.input;
     next.index = index - sizes::float_of(s.input);
     next.current = s.target;
+    next.now = s.then;
     next
 }
 
@@ -126,11 +127,14 @@ pub fn plan(s: State, frames: usize, mask: u64, input: usize, output: usize, wor
 fn restored_state(s: State) -> State
     ensures { λ r. ⌜ r ≡ restored s ⌝ }
 {
+    let step = state::step_of(s.original);
     let mut next = s;
     next.chunk = s.chunk0;
     next.index = sizes::start_index(state::points_in(s));
     next.current = s.original;
     next.target = s.original;
+    next.now = step;
+    next.then = step;
     next
 }
 

@@ -12,12 +12,14 @@ use Rattle.state.specs.declared.State.{State}
 use Rattle.sizes.specs.Bounds.{isRatio, isChannels, isChunk, isSize, isIndex}
 use Rattle.sizes.specs.Sizes.{isFrames, framesOf, sizeIs, sizeHolds}
 use Rattle.sizes.proofs.Read.{input-small, output-small, max-small, size-is, size-holds, is-frames}
-use Rattle.state.specs.Record.{pointsIn, stepNow, stepThen, inputOf, outputOf, maxInputOf, maxOutputOf, countsHold, ratiosHold, maximaHold, sizesHold, isState}
+use Rattle.state.specs.Record.{pointsIn, stepOf, stepNow, stepThen, inputOf, outputOf, maxInputOf, maxOutputOf, countsHold, ratiosHold, isStep, stepsHold, maximaHold, sizesHold, isState}
+use Rattle.state.proofs.Steps.{step-is}
 
 -- ---- the parts of the test: all but the needed sizes, and these
 pub record Ready (s : State) : Type 0 where
   pub counts : countsHold s ≡ true
   pub ratios : ratiosHold s ≡ true
+  pub steps : stepsHold s ≡ true
   pub maxima : maximaHold s ≡ true
   pub fill : sizeHolds (maxInputOf s) (s .fill) ≡ true
   pub index : isIndex (s .index) ≡ true
@@ -30,14 +32,15 @@ pub record Needed (s : State) : Type 0 where
 pub tests : (s : State) → isState s ≡ true → Ready s × Needed s
 unfolding isState
 tests s h =
-    let all3 = both _ _ h in
-    let all2 = both _ _ (all3 .0) in
-    let all1 = both (countsHold s && ratiosHold s) (maximaHold s) (all2 .0) in
+    let all4 = both _ _ h in
+    let all3 = both _ _ (all4 .0) in
+    let all2 = both (countsHold s && ratiosHold s && stepsHold s) (maximaHold s) (all3 .0) in
+    let all1 = both (countsHold s && ratiosHold s) (stepsHold s) (all2 .0) in
     let all0 = both (countsHold s) (ratiosHold s) (all1 .0) in
-    let z2 = both _ _ (all2 .1) in
+    let z2 = both _ _ (all3 .1) in
     let z1 = both _ _ (z2 .0) in
     let z0 = both (sizeIs (inputOf s) (s .input)) (sizeIs (outputOf s) (s .output)) (z1 .0) in (
-      record { counts = all0 .0; ratios = all0 .1; maxima = all1 .1; fill = z2 .1; index = all3 .1 },
+      record { counts = all0 .0; ratios = all0 .1; steps = all1 .1; maxima = all2 .1; fill = z2 .1; index = all4 .1 },
       record { input = z0 .0; output = z0 .1; input-most = z1 .1 },
     )
 
@@ -45,7 +48,7 @@ pub passes : (s : State) → Ready s → Needed s → isState s ≡ true
 unfolding isState
 passes s r n =
     let sizes : sizesHold s ≡ true = join (join (join (n .input) (n .output)) (n .input-most)) (r .fill) in
-    join (join (join (join (r .counts) (r .ratios)) (r .maxima)) sizes) (r .index)
+    join (join (join (join (join (r .counts) (r .ratios)) (r .steps)) (r .maxima)) sizes) (r .index)
 
 -- ---- what the test tells
 pub record Valid (s : State) : Type 0 where
@@ -58,6 +61,8 @@ pub record Valid (s : State) : Type 0 where
   pub current-ratio : isRatio (s .current) ≡ true
   pub target-ratio : isRatio (s .target) ≡ true
   pub m-holds : atLeastOne (s .m) ≡ true
+  pub step-now-is : stepNow s ≡ stepOf (s .current)
+  pub step-then-is : stepThen s ≡ stepOf (s .target)
   pub input-is : inputOf s ≡ Frames (s .input)
   pub output-is : outputOf s ≡ Frames (s .output)
   pub max-input-is : maxInputOf s ≡ Frames (framesOf (maxInputOf s))
@@ -83,6 +88,7 @@ valid s h =
     let r2 = both _ _ (r .ratios) in
     let r1 = both _ _ (r2 .0) in
     let r0 = both (isRatio (s .original)) (isRatio (s .current)) (r1 .0) in
+    let u = both (isStep (s .now) (s .current)) (isStep (s .then) (s .target)) (r .steps) in
     let x = both (isFrames (maxInputOf s)) (isFrames (maxOutputOf s)) (r .maxima) in
     let input = size-is (inputOf s) (s .input) (n .input) in
     let output = size-is (outputOf s) (s .output) (n .output) in
@@ -98,6 +104,8 @@ valid s h =
       current-ratio = r0 .1;
       target-ratio = r1 .1;
       m-holds = r2 .1;
+      step-now-is = step-is (s .now) (s .current) (u .0);
+      step-then-is = step-is (s .then) (s .target) (u .1);
       input-is = input;
       output-is = output;
       max-input-is = is-frames (maxInputOf s) (x .0);

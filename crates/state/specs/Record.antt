@@ -1,9 +1,9 @@
--- The state record: its sizes, the StateRecord test, and the one end of every call. Definitions only.
-use mathlib.Core.Bool.{Bool, _&&_}
+-- The state record: its steps and sizes, the StateRecord test, and the one end of every call. Definitions only.
+use mathlib.Core.Bool.{Bool, not, _&&_}
 use mathlib.Core.List.{[]}
 use Prim.Native.Nat.{ℕ}
-use lib.Dec.{leb}
-use lib.Ieee.{Float}
+use lib.Dec.{eqb, leb}
+use lib.Ieee.{Float, binary64, fits, isNan, toBits}
 use Rattle.exact.specs.Doubles.{_/f_, oneF, atLeastOne}
 use Rattle.error.specs.Refusals.{Said, given, refused, unless, numberOf, valuesOf}
 use Rattle.asynchro_fast.specs.Degrees.{pointsOf}
@@ -14,15 +14,20 @@ use Rattle.state.specs.declared.Made.the-variants as made
 use Rattle.sizes.specs.Bounds.{isRatio, isChannels, isChunk, isIndex}
 use Rattle.sizes.specs.Sizes.{neededInput, neededOutput, maxInput, maxOutput, isFrames, framesOf, sizeIs, sizeHolds}
 
--- the points L of a record, and its steps: the only places that divide 1 by a ratio
+-- the points L of a record
 abbrev pub pointsIn : State → ℕ
 pointsIn s = pointsOf (s .degree)
 
+-- Document 02, R-2: "Store 1/current and 1/target in the state record". The step of an original, current or target ratio: the one place that divides 1 by one
+abbrev pub stepOf : Float → Float
+stepOf r = oneF /f r
+
+-- the stored steps, 1/r1 and 1/r2, as sizes, t and d read them
 abbrev pub stepNow : State → Float
-stepNow s = oneF /f s .current
+stepNow s = s .now
 
 abbrev pub stepThen : State → Float
-stepThen s = oneF /f s .target
+stepThen s = s .then
 
 -- the sizes by the formulas
 abbrev pub inputOf : State → Size
@@ -46,6 +51,13 @@ countsHold s = isChannels (s .channels) && isChunk (s .chunk) && isChunk (s .chu
 abbrev pub ratiosHold : State → Bool
 ratiosHold s = isRatio (s .original) && isRatio (s .current) && isRatio (s .target) && atLeastOne (s .m)
 
+-- R-2: "10 is also given if either stored step differs from its division", in its bits; a NaN always differs. x is a double, as every f64 of the code is, no NaN, and has the bits of r's step
+abbrev pub isStep : Float → Float → Bool
+isStep x r = fits binary64 x && not (isNan x) && eqb (toBits binary64 x) (toBits binary64 (stepOf r))
+
+abbrev pub stepsHold : State → Bool
+stepsHold s = isStep (s .now) (s .current) && isStep (s .then) (s .target)
+
 -- "maximum sizes at most 65,536"
 abbrev pub maximaHold : State → Bool
 maximaHold s = isFrames (maxInputOf s) && isFrames (maxOutputOf s)
@@ -56,15 +68,31 @@ sizesHold s = sizeIs (inputOf s) (s .input) && sizeIs (outputOf s) (s .output) &
 
 -- "index finite and strictly between -2^17 and 2^17"
 unfoldable pub isState : State → Bool
-isState s = countsHold s && ratiosHold s && maximaHold s && sizesHold s && isIndex (s .index)
+isState s = countsHold s && ratiosHold s && stepsHold s && maximaHold s && sizesHold s && isIndex (s .index)
 
 -- a record with other values of the fields that calls change; the others never change
-abbrev pub changed : State → ℕ → ℕ → ℕ → ℕ → Float → Float → Float → State
-changed s chunk input output fill index current target =
-    record { channels = s .channels; chunk = chunk; chunk0 = s .chunk0; input = input; output = output; fill = fill; index = index; original = s .original; current = current; target = target; m = s .m; degree = s .degree; fixed = s .fixed }
+abbrev pub changed : State → ℕ → ℕ → ℕ → ℕ → Float → Float → Float → Float → Float → State
+changed s chunk input output fill index current target now then =
+    record {
+      channels = s .channels;
+      chunk = chunk;
+      chunk0 = s .chunk0;
+      input = input;
+      output = output;
+      fill = fill;
+      index = index;
+      original = s .original;
+      current = current;
+      target = target;
+      now = now;
+      then = then;
+      m = s .m;
+      degree = s .degree;
+      fixed = s .fixed;
+    }
 
 abbrev pub withSizes : State → ℕ → ℕ → State
-withSizes s i o = changed s (s .chunk) i o (s .fill) (s .index) (s .current) (s .target)
+withSizes s i o = changed s (s .chunk) i o (s .fill) (s .index) (s .current) (s .target) (s .now) (s .then)
 
 -- The end of every call: "sizes are worked out again"; refusal 6: "a size the call would leave exceeds 65,536, or needed input exceeds maximum input".
 unfoldable pub updateLengths : State → Said State

@@ -1,4 +1,4 @@
-// The state record: its sizes, the StateRecord test, and the one end of every call.
+// The state record: its steps and sizes, the StateRecord test, and the one end of every call.
 use asynchro_fast::PolynomialDegree;
 use error::Refusal;
 use sizes::FixedAsync;
@@ -7,8 +7,10 @@ ghost use mathlib.Core.Path.{_≡_};
 ghost use Rattle.exact.specs.Doubles.{atLeastOne};
 ghost use Rattle.sizes.specs.Bounds.{isRatio, isChannels, isChunk, isIndex};
 ghost use Rattle.state.specs.Record.{
+  stepOf,
   stepNow,
   stepThen,
+  isStep,
   pointsIn,
   inputOf,
   outputOf,
@@ -16,6 +18,7 @@ ghost use Rattle.state.specs.Record.{
   maxOutputOf,
   countsHold,
   ratiosHold,
+  stepsHold,
   maximaHold,
   sizesHold,
   isState,
@@ -25,6 +28,7 @@ ghost use Rattle.state.specs.Record.{
 
 // Document 01, "The ratio state". `chunk0` is the construction chunk, `input` and `output` are the
 // needed sizes, `fill` the input frames that the working area holds, `m` the largest relative ratio.
+// Document 02, R-2: `now` and `then` are the stored steps, 1/current and 1/target.
 pub struct State {
     pub channels: usize,
     pub chunk: usize,
@@ -36,6 +40,8 @@ pub struct State {
     pub original: f64,
     pub current: f64,
     pub target: f64,
+    pub now: f64,
+    pub then: f64,
     pub m: f64,
     pub degree: PolynomialDegree,
     pub fixed: FixedAsync,
@@ -47,17 +53,24 @@ pub enum Made {
     Refused(Refusal),
 }
 
-// The step of the current ratio, and that of the target: the only places that divide 1 by a ratio.
+// The step of an original, current or target ratio: the only place that divides 1 by one.
+pub fn step_of(r: f64) -> f64
+    ensures { λ t. ⌜ t ≡ stepOf r ⌝ }
+{
+    1.0 / r
+}
+
+// The stored step of the current ratio, and that of the target, for sizes, t and d: nothing is divided.
 pub fn step_now(s: State) -> f64
     ensures { λ t. ⌜ t ≡ stepNow s ⌝ }
 {
-    1.0 / s.current
+    s.now
 }
 
 pub fn step_then(s: State) -> f64
     ensures { λ t. ⌜ t ≡ stepThen s ⌝ }
 {
-    1.0 / s.target
+    s.then
 }
 
 // The points L of a record.
@@ -143,6 +156,23 @@ pub fn ratios_hold(s: State) -> bool
     is_ratio(s.original) & is_ratio(s.current) & is_ratio(s.target) & at_least_one(s.m)
 }
 
+// x has the bits of r's step; a NaN never has.
+fn is_step(x: f64, r: f64) -> bool
+    ensures { λ b. ⌜ b ≡ isStep x r ⌝ }
+{
+    let fresh = step_of(r);
+    if (x != x) | (fresh != fresh) {
+        return false;
+    }
+    f64::to_bits(x) == f64::to_bits(fresh)
+}
+
+pub fn steps_hold(s: State) -> bool
+    ensures { λ b. ⌜ b ≡ stepsHold s ⌝ }
+{
+    is_step(s.now, s.current) & is_step(s.then, s.target)
+}
+
 pub fn maxima_hold(s: State) -> bool
     ensures { λ b. ⌜ b ≡ maximaHold s ⌝ }
 {
@@ -163,7 +193,12 @@ pub fn sizes_hold(s: State) -> bool
 pub fn is_state(s: State) -> bool
     ensures { λ b. ⌜ b ≡ isState s ⌝ }
 {
-    counts_hold(s) & ratios_hold(s) & maxima_hold(s) & sizes_hold(s) & is_index(s.index)
+    counts_hold(s)
+        & ratios_hold(s)
+        & steps_hold(s)
+        & maxima_hold(s)
+        & sizes_hold(s)
+        & is_index(s.index)
 }
 
 // The one end of every call: sizes, refusal 6, the record put together.

@@ -1,11 +1,12 @@
 -- `asynchro::apply_ratio` meets its contract: a rung of the ladder for each refusal, then the end of every call. Assumes nothing.
-use mathlib.Core.Path.{sym, ap, _∙_}
+use mathlib.Core.Bool.{true, false}
+use mathlib.Core.Path.{ap, _∙_}
 use mathlib.Core.Logic.{⊎-elim}
 use borrow.Author.Tests.{not-true, not-false}
 use borrow.Author.Needs.{needs}
 use Rattle.error.proofs.Ladder.{pass, stop, failed, passed}
-use Rattle.asynchro.specs.Calls.{withRatio}
 use Rattle.state.specs.Record.{updateLengths}
+use Rattle.asynchro.proofs.Ratio.{ratio-set}
 use Rattle.asynchro.proofs.apply_ratio.Statement.{statement}
 use Rattle.asynchro.proofs.apply_ratio.Tie as tie
 
@@ -29,19 +30,22 @@ returns-3 c =
     pass _ _ _ _ _ (not-false _ (c .before .before .if2 .left)) (
     stop _ _ _ _ (failed (c .before .is-ratio .ensures) (c .if3 .taken))))
 
+step-of-requires : tie.Need-step-of-requires
+step-of-requires c κs = search needs
+
 update-lengths-requires : tie.Need-update-lengths-requires
 update-lengths-requires c κs = search needs
 
 returns-4 : tie.Need-returns-4
 returns-4 c =
-    let t = c .before .before in
+    let t = c .before .before .before in
     let a = t .before .before .before .before .before .args in
     pass _ _ _ _ _ (passed (t .before .before .before .before .is-state .ensures) (t .before .before .before .if1 .left)) (
     pass _ _ _ _ _ (not-false _ (t .before .before .if2 .left)) (
     pass _ _ _ _ _ (passed (t .before .is-ratio .ensures) (t .if3 .left)) (
     c .update-lengths .ensures ∙ ap updateLengths (⊎-elim
-    (λ w. w .1 ∙ ap (withRatio (a .s) (a .r)) (sym (not-true (a .ramp) (w .0 .taken))))
-    (λ w. w .1 ∙ ap (withRatio (a .s) (a .r)) (sym (not-false (a .ramp) (w .0 .left))))
+    (λ w. w .1 ∙ ratio-set (a .s) (a .r) _ (a .ramp) false (c .before .before .step-of .ensures) (not-true (a .ramp) (w .0 .taken)))
+    (λ w. w .1 ∙ ratio-set (a .s) (a .r) _ (a .ramp) true (c .before .before .step-of .ensures) (not-false (a .ramp) (w .0 .left)))
     (c .before .if4 .came)))))
 
 pub apply-ratio-spec : {M : Type 1} → statement M
@@ -53,5 +57,6 @@ apply-ratio-spec =
     returns-2
     is-ratio-requires
     returns-3
+    step-of-requires
     update-lengths-requires
     returns-4)

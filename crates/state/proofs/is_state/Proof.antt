@@ -10,6 +10,9 @@ counts-hold-requires c κs = search needs
 ratios-hold-requires : tie.Need-ratios-hold-requires
 ratios-hold-requires c κs = search needs
 
+steps-hold-requires : tie.Need-steps-hold-requires
+steps-hold-requires c κs = search needs
+
 maxima-hold-requires : tie.Need-maxima-hold-requires
 maxima-hold-requires c κs = search needs
 
@@ -21,7 +24,7 @@ is-index-requires c κs = search needs
 
 returns : tie.Need-returns
 unfolding isState
-returns c = rw (c .is-index .ensures, c .before .sizes-hold .ensures, c .before .before .maxima-hold .ensures, c .before .before .before .ratios-hold .ensures, c .before .before .before .before .counts-hold .ensures)
+returns c = rw (c .is-index .ensures, c .before .sizes-hold .ensures, c .before .before .maxima-hold .ensures, c .before .before .before .steps-hold .ensures, c .before .before .before .before .ratios-hold .ensures, c .before .before .before .before .before .counts-hold .ensures)
 
 pub is-state-spec : {M : Type 1} → statement M
 is-state-spec =
@@ -29,6 +32,7 @@ is-state-spec =
     (tie.spec
     counts-hold-requires
     ratios-hold-requires
+    steps-hold-requires
     maxima-hold-requires
     sizes-hold-requires
     is-index-requires
