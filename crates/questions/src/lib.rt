@@ -6,7 +6,7 @@ use state::State;
 ghost use mathlib.Core.Path.{_≡_};
 ghost use Rattle.error.specs.Refusals.{saidAnswer};
 ghost use Rattle.sizes.specs.Sizes.{framesOf, delayOf};
-ghost use Rattle.state.specs.Record.{pointsIn, maxInputOf, maxOutputOf};
+ghost use Rattle.state.specs.Record.{pointsIn, stepNow, stepThen, maxInputOf, maxOutputOf};
 ghost use Rattle.questions.specs.Questions.{asked, saidCount};
 
 // What a question about a number of frames or channels answers.
@@ -72,13 +72,34 @@ pub fn output_delay(s: State) -> Count
     }
 }
 
+// A question about a double: refusal 10 only.
+fn asked_value(s: State, x: f64) -> Answer
+    ensures { λ r. ⌜ saidAnswer r ≡ asked s x ⌝ }
+{
+    if state::is_state(s) {
+        Answer::Value(x)
+    } else {
+        Answer::Refused(Refusal::StateRecord)
+    }
+}
+
 // The current ratio.
 pub fn resample_ratio(s: State) -> Answer
     ensures { λ r. ⌜ saidAnswer r ≡ asked s (s .current) ⌝ }
 {
-    if state::is_state(s) {
-        Answer::Value(s.current)
-    } else {
-        Answer::Refused(Refusal::StateRecord)
-    }
+    asked_value(s, s.current)
+}
+
+// Document 02, R-2: the input step now, which the record holds.
+pub fn input_step_now(s: State) -> Answer
+    ensures { λ r. ⌜ saidAnswer r ≡ asked s (stepNow s) ⌝ }
+{
+    asked_value(s, state::step_now(s))
+}
+
+// The input step to come: that of the target ratio.
+pub fn input_step_then(s: State) -> Answer
+    ensures { λ r. ⌜ saidAnswer r ≡ asked s (stepThen s) ⌝ }
+{
+    asked_value(s, state::step_then(s))
 }

@@ -1,9 +1,9 @@
--- `questions::resample_ratio` meets its contract. Assumes nothing.
+-- `questions::asked_value` meets its contract. Assumes nothing.
 use mathlib.Core.Path.{refl, sym, _∙_}
 use borrow.Author.Needs.{needs}
 use Rattle.error.proofs.Ladder.{pass, stop}
-use Rattle.questions.proofs.resample_ratio.Statement.{statement}
-use Rattle.questions.proofs.resample_ratio.Tie as tie
+use Rattle.questions.proofs.asked_value.Statement.{statement}
+use Rattle.questions.proofs.asked_value.Tie as tie
 
 is-state-requires : tie.Need-is-state-requires
 is-state-requires c κs = search needs
@@ -14,5 +14,5 @@ returns c = pass _ _ _ _ _ (sym (c .before .is-state .ensures) ∙ c .if1 .taken
 returns-2 : tie.Need-returns-2
 returns-2 c = stop _ _ _ _ (sym (c .before .is-state .ensures) ∙ c .if1 .left)
 
-pub resample-ratio-spec : {M : Type 1} → statement M
-resample-ratio-spec = tie.close (tie.spec is-state-requires returns returns-2)
+pub asked-value-spec : {M : Type 1} → statement M
+asked-value-spec = tie.close (tie.spec is-state-requires returns returns-2)
