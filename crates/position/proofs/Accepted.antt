@@ -27,7 +27,7 @@ use Rattle.plan.specs.Plan.{shapeHolds, incrementOf, reachHolds, afterBlock, pl
 use Rattle.position.specs.Position.{rampOf}
 use Rattle.position.proofs.Amounts.{looser}
 use Rattle.position.proofs.Tests.{holds, Double, index-of}
-use Rattle.position.proofs.Steps.{Step, step-of}
+use Rattle.position.proofs.Steps.{Step, step-now, step-then}
 use Rattle.position.proofs.Empty.{count-is, none-ahead}
 use Rattle.position.proofs.Blocks.{Moved, block-none, block-some}
 
@@ -79,10 +79,10 @@ module _ (s : State) (q : Double (s .index)) (h : isState s ≡ true) where
   incAt n = cond (eqb n 0) zeroF ((stepThen s -f stepNow s) /f count n)
 
   now : Step (stepNow s)
-  now = step-of (s .current) (holds (valid s h .current-ratio))
+  now = step-now s h
 
   then : Step (stepThen s)
-  then = step-of (s .target) (holds (valid s h .target-ratio))
+  then = step-then s h
 
   index : Number binary64 (s .index) × Below (2 ^ 1091) (exact binary64 (s .index))
   index = index-of (s .index) q (holds (valid s h .index-inside))

@@ -3,7 +3,7 @@ use mathlib.Core.Bool.{true}
 use mathlib.Core.List.{List, [], _∷_}
 use mathlib.Core.Path.{_≡_, refl}
 use Prim.Native.Nat.{_*_, _^_}
-use lib.Ieee.{add, sub, mul, div, neg, round, lt, le, eq, ofInt, ofBits, fits}
+use lib.Ieee.{add, sub, mul, div, neg, round, lt, le, eq, ofInt, ofBits, toBits, fits, isNan}
 use lib.ListN.{replicate}
 use Rattle.exact.specs.Doubles.{zeroF, oneF, halfF, twoF}
 use Rattle.exact.specs.Whole.{Same}
@@ -25,7 +25,7 @@ use Rattle.position.specs.Position.{opened, Ledger, ledger, stored}
 
 -- the record that the construction gives
 abbrev pub made : State
-made = record { channels = 1; chunk = 4; chunk0 = 4; input = 5; output = 4; fill = 5; index = startOf 2; original = oneF; current = oneF; target = oneF; m = twoF; degree = Linear; fixed = Output }
+made = record { channels = 1; chunk = 4; chunk0 = 4; input = 5; output = 4; fill = 5; index = startOf 2; original = oneF; current = oneF; target = oneF; now = oneF; then = oneF; m = twoF; degree = Linear; fixed = Output }
 
 pub made-start : Start made
 unfolding construct firstLengths updateLengths unless sizeOf neededInput neededOutput maxInput maxOutput madeWhole ofBits ofInt add sub mul div neg round lt eq le fits
@@ -40,10 +40,10 @@ case6 = ledger made (opened made) calls
 
 -- the block is accepted: 8 frames in, 4 frames out, and it has a ramp
 pub case6-counts : (case6 .account .inputs ≡ 8) × (case6 .account .frames ≡ 4) × (case6 .account .blocks ≡ 1) × (case6 .account .ramps ≡ 20 * 2 ^ 1028)
-unfolding calls ledger updateLengths planned isState unless sizeOf neededInput neededOutput maxInput maxOutput madeWhole allReach placeFrom pathAt ofBits ofInt add sub mul div neg round lt eq le fits exact tri
+unfolding calls ledger updateLengths planned isState unless sizeOf neededInput neededOutput maxInput maxOutput madeWhole allReach placeFrom pathAt ofBits toBits ofInt add sub mul div neg round lt eq le fits isNan exact tri
 case6-counts = (refl, refl, refl, refl)
 
 -- 5.5 in units of 2 ^ -1074
 pub case6-positions : Same (stored case6) (11 * 2 ^ 1073, 0) × Same (case6 .account .exactly) (11 * 2 ^ 1073, 0)
-unfolding calls ledger updateLengths planned isState unless sizeOf neededInput neededOutput maxInput maxOutput madeWhole allReach placeFrom pathAt ofBits ofInt add sub mul div neg round lt eq le fits exact tri
+unfolding calls ledger updateLengths planned isState unless sizeOf neededInput neededOutput maxInput maxOutput madeWhole allReach placeFrom pathAt ofBits toBits ofInt add sub mul div neg round lt eq le fits isNan exact tri
 case6-positions = (refl, refl)

@@ -1,4 +1,4 @@
--- The steps of a block: 1/r of a ratio in use, the ramp increment, and each step on the way. In units of 2 ^ -1074. Assumes nothing.
+-- The steps of a block: 1/r of a ratio in use, the stored steps, the ramp increment, and each step on the way. In units of 2 ^ -1074. Assumes nothing.
 use mathlib.Core.Bool.{Bool, true, false, cond}
 use mathlib.Core.Path.{_≡_, sym, subst}
 use Prim.Native.Nat.{ℕ, _+_, _*_, _^_, _≤_, _<_}
@@ -20,8 +20,11 @@ use Rattle.exact.proofs.Sums.{sub-near}
 use Rattle.exact.proofs.Products.{div-near}
 use Rattle.exact.proofs.Running.{run-drift}
 use Rattle.sizes.specs.Bounds.{isRatio}
+use Rattle.state.specs.declared.State.{State}
+use Rattle.state.specs.Record.{stepOf, stepNow, stepThen, isState}
+use Rattle.state.proofs.Valid.{valid}
 use Rattle.position.proofs.Amounts.{count-exact, mag-is, mag-below}
-use Rattle.position.proofs.Tests.{ratio-of}
+use Rattle.position.proofs.Tests.{holds, ratio-of}
 
 -- ---- the step of a ratio is a number from 1/512 to 257, which leaves room for the rounding of 1/r
 -- the laws are over h, which is 2 ^ -46: one is 2 ^ 46 * h, and the slack of numbers below 2 ^ 9 is 2 * h
@@ -56,10 +59,17 @@ fraction-step m e l k = go (eqb m 0) (eqb→eq m 0)
         let r = round-near binary64 false (1 * 1 * down e) (m * up e * 1) 9 (b .0) (b .1) (lit≤ tt) in
         record { number = r .0; pace = quotient-pace (2 ^ 1028) (down e) (m * up e) _ (pow-pos 1028) (b .0) l k (r .1) }
 
-pub step-of : (r : Float) → T (isRatio r) → Step (oneF /f r)
+step-of : (r : Float) → T (isRatio r) → Step (stepOf r)
 step-of r h =
     let q = ratio-of r h in
     subst (λ (z : Float). Step (oneF /f z)) (sym (q .is)) (fraction-step (q .digits) (q .exponent) (q .least) (q .most))
+
+-- the stored steps of a record that passes the StateRecord test are those of its ratios
+pub step-now : (s : State) → isState s ≡ true → Step (stepNow s)
+step-now s h = let v = valid s h in subst Step (sym (v .step-now-is)) (step-of (s .current) (holds (v .current-ratio)))
+
+pub step-then : (s : State) → isState s ≡ true → Step (stepThen s)
+step-then s h = let v = valid s h in subst Step (sym (v .step-then-is)) (step-of (s .target) (holds (v .target-ratio)))
 
 -- ---- u - t, rounded once
 apart : (h : ℕ) (t u : Whole) → Pace h t → Pace h u → Below (2 ^ 9 * (2 ^ 46 * h)) (u ⊖ t)

@@ -28,7 +28,7 @@ pub record Account : Type 0 where
 abbrev pub opened : State → Account
 opened s = record { exactly = exact binary64 (s .index); inputs = 0; frames = 0; blocks = 0; ramps = 0 }
 
--- ".. for each block, n*t + d*n*(n+1)/2": n its output frames, t and d its starting step and ramp increment, doubles taken as exact. tri n is 1 + 2 + .. + n, which is n*(n+1)/2 (`tri-half` in exact)
+-- ".. for each block, n*t + d*n*(n+1)/2": n its output frames, t and d its starting step and ramp increment, doubles taken as exact; R-2: t is the step that the record holds. tri n is 1 + 2 + .. + n, which is n*(n+1)/2 (`tri-half` in exact)
 abbrev pub exactMove : State → ℕ → Whole
 exactMove s n = n ⊙ exact binary64 (stepNow s) ⊕ tri n ⊙ exact binary64 (incrementOf s)
 

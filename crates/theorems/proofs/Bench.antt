@@ -2,7 +2,7 @@
 use mathlib.Core.Bool.{true, false}
 use mathlib.Core.List.{List, [], _∷_}
 use mathlib.Core.Path.{_≡_, refl, sym, ap, _∙_}
-use lib.Ieee.{Float, add, sub, mul, div, neg, ofInt, ofBits, lt, le, eq, toSigned, toUnsigned}
+use lib.Ieee.{Float, add, sub, mul, div, neg, ofInt, ofBits, toBits, lt, le, eq, fits, isNan, toSigned, toUnsigned}
 use lib.ListN.{length, replicate}
 use Rattle.exact.specs.Doubles.{count, _-f_, oneF, zeroF}
 use Rattle.error.specs.Refusals.{Said, given, refused, unless}
@@ -38,7 +38,7 @@ Every (c ∷ cs) = Holds c × Every cs
 
 -- ---- cases 1 and 2: their blocks go along 63 and 1,035 frames, so Reach is computed from the front, which `reach-from` shows to be the same
 begun : State
-begun = record { channels = 1; chunk = 1024; chunk0 = 1024; input = 1024; output = 63; fill = 1024; index = neg (count 4); original = sixteenthF; current = sixteenthF; target = sixteenthF; m = count 16; degree = Septic; fixed = Input }
+begun = record { channels = 1; chunk = 1024; chunk0 = 1024; input = 1024; output = 63; fill = 1024; index = neg (count 4); original = sixteenthF; current = sixteenthF; target = sixteenthF; now = count 16; then = count 16; m = count 16; degree = Septic; fixed = Input }
 
 begun-is : septicMade ≡ given begun
 unfolding begun unless madeWhole sizeOf neededInput neededOutput maxInput maxOutput updateLengths firstLengths construct add sub mul div neg ofInt ofBits lt le eq
@@ -46,13 +46,13 @@ begun-is = refl
 
 -- what the block leaves, and what the setting makes of that
 onward : State
-onward = record { channels = 1; chunk = 1024; chunk0 = 1024; input = 1024; output = 64; fill = 1024; index = neg (count 20); original = sixteenthF; current = sixteenthF; target = sixteenthF; m = count 16; degree = Septic; fixed = Input }
+onward = record { channels = 1; chunk = 1024; chunk0 = 1024; input = 1024; output = 64; fill = 1024; index = neg (count 20); original = sixteenthF; current = sixteenthF; target = sixteenthF; now = count 16; then = count 16; m = count 16; degree = Septic; fixed = Input }
 
 turned : State
-turned = record { channels = 1; chunk = 1024; chunk0 = 1024; input = 1024; output = 1035; fill = 1024; index = neg (count 20); original = sixteenthF; current = oneF; target = oneF; m = count 16; degree = Septic; fixed = Input }
+turned = record { channels = 1; chunk = 1024; chunk0 = 1024; input = 1024; output = 1035; fill = 1024; index = neg (count 20); original = sixteenthF; current = oneF; target = oneF; now = oneF; then = oneF; m = count 16; degree = Septic; fixed = Input }
 
 begun-holds : isState begun ≡ true
-unfolding begun unless madeWhole sizeOf neededInput neededOutput maxInput maxOutput isState add sub mul div neg ofInt ofBits lt le eq
+unfolding begun unless madeWhole sizeOf neededInput neededOutput maxInput maxOutput isState fits isNan toBits add sub mul div neg ofInt ofBits lt le eq
 begun-holds = refl
 
 begun-shape : shapeHolds begun 1024 1 (length (silence begun)) (length (replicate 63 zeroF)) (length (zeros begun)) ≡ true
@@ -72,11 +72,11 @@ unfolding begun pathAt add sub mul div neg ofInt ofBits
 begun-path = refl
 
 -- the record after the block, before its sizes are worked out
-begun-after : afterBlock begun ≡ changed begun 1024 1024 63 1024 (neg (count 20)) sixteenthF sixteenthF
+begun-after : afterBlock begun ≡ changed begun 1024 1024 63 1024 (neg (count 20)) sixteenthF sixteenthF (count 16) (count 16)
 unfolding begun
-begun-after = ap (λ (i : Float). changed begun 1024 1024 63 1024 i sixteenthF sixteenthF) begun-path
+begun-after = ap (λ (i : Float). changed begun 1024 1024 63 1024 i sixteenthF sixteenthF (count 16) (count 16)) begun-path
 
-begun-sizes : given onward ≡ updateLengths (changed begun 1024 1024 63 1024 (neg (count 20)) sixteenthF sixteenthF)
+begun-sizes : given onward ≡ updateLengths (changed begun 1024 1024 63 1024 (neg (count 20)) sixteenthF sixteenthF (count 16) (count 16))
 unfolding begun onward unless madeWhole sizeOf neededInput neededOutput maxInput maxOutput updateLengths add sub mul div neg ofInt ofBits lt le eq
 begun-sizes = refl
 
@@ -95,11 +95,11 @@ holds-1 =
     ∙ ap (λ (t : State). size 63 ∷ double (t .index) ∷ size (t .output) ∷ []) begun-left
 
 turned-is : setRatio onward oneF false .state ≡ turned
-unfolding onward turned unless madeWhole sizeOf neededInput neededOutput maxInput maxOutput isState updateLengths add sub mul div neg ofInt ofBits lt le eq
+unfolding onward turned unless madeWhole sizeOf neededInput neededOutput maxInput maxOutput isState fits isNan toBits updateLengths add sub mul div neg ofInt ofBits lt le eq
 turned-is = refl
 
 turned-holds : isState turned ≡ true
-unfolding turned unless madeWhole sizeOf neededInput neededOutput maxInput maxOutput isState add sub mul div neg ofInt ofBits lt le eq
+unfolding turned unless madeWhole sizeOf neededInput neededOutput maxInput maxOutput isState fits isNan toBits add sub mul div neg ofInt ofBits lt le eq
 turned-holds = refl
 
 turned-shape : shapeHolds turned 1024 1 (length (silence turned)) (length (replicate 1035 zeroF)) (length (zeros begun)) ≡ true
@@ -134,23 +134,23 @@ holds-2 =
 
 -- ---- the others
 holds-3 : Holds case-3
-unfolding unless madeWhole sizeOf neededInput neededOutput maxInput maxOutput isState updateLengths firstLengths construct pathAt placeFrom allReach planned add sub mul div neg ofInt ofBits lt le eq
+unfolding unless madeWhole sizeOf neededInput neededOutput maxInput maxOutput isState fits isNan toBits updateLengths firstLengths construct pathAt placeFrom allReach planned add sub mul div neg ofInt ofBits lt le eq
 holds-3 = refl
 
 holds-4 : Holds case-4
-unfolding unless madeWhole sizeOf neededInput neededOutput maxInput maxOutput isState updateLengths firstLengths construct pathAt placeFrom allReach planned moved loaded partsTo eachPart interpOf valueAt framesTo workAfter outputAfter add sub mul div neg ofInt ofBits lt le eq
+unfolding unless madeWhole sizeOf neededInput neededOutput maxInput maxOutput isState fits isNan toBits updateLengths firstLengths construct pathAt placeFrom allReach planned moved loaded partsTo eachPart interpOf valueAt framesTo workAfter outputAfter add sub mul div neg ofInt ofBits lt le eq
 holds-4 = refl
 
 holds-5 : (a b : Float) → Holds (case-5 a b)
-unfolding unless madeWhole sizeOf neededInput neededOutput maxInput maxOutput isState updateLengths firstLengths construct pathAt placeFrom allReach planned moved loaded partsTo eachPart interpOf valueAt framesTo workAfter outputAfter add sub mul div neg ofInt ofBits lt le eq
+unfolding unless madeWhole sizeOf neededInput neededOutput maxInput maxOutput isState fits isNan toBits updateLengths firstLengths construct pathAt placeFrom allReach planned moved loaded partsTo eachPart interpOf valueAt framesTo workAfter outputAfter add sub mul div neg ofInt ofBits lt le eq
 holds-5 a b = refl
 
 holds-6 : Holds case-6
-unfolding unless madeWhole sizeOf neededInput neededOutput maxInput maxOutput isState updateLengths firstLengths construct pathAt placeFrom allReach planned add sub mul div neg ofInt ofBits lt le eq
+unfolding unless madeWhole sizeOf neededInput neededOutput maxInput maxOutput isState fits isNan toBits updateLengths firstLengths construct pathAt placeFrom allReach planned add sub mul div neg ofInt ofBits lt le eq
 holds-6 = refl
 
 holds-7 : Holds case-7
-unfolding unless madeWhole sizeOf neededInput neededOutput maxInput maxOutput isState updateLengths firstLengths construct pathAt placeFrom allReach planned add sub mul div neg ofInt ofBits lt le eq
+unfolding unless madeWhole sizeOf neededInput neededOutput maxInput maxOutput isState fits isNan toBits updateLengths firstLengths construct pathAt placeFrom allReach planned add sub mul div neg ofInt ofBits lt le eq
 holds-7 = refl
 
 holds-8 : (degree : PolynomialDegree) → Holds (case-8 degree)
@@ -162,7 +162,7 @@ holds-8 Quintic = refl
 holds-8 Septic = refl
 
 holds-9 : Holds case-9
-unfolding unless madeWhole sizeOf neededInput neededOutput maxInput maxOutput isState updateLengths firstLengths construct add sub mul div neg ofInt ofBits lt le eq
+unfolding unless madeWhole sizeOf neededInput neededOutput maxInput maxOutput isState fits isNan toBits updateLengths firstLengths construct add sub mul div neg ofInt ofBits lt le eq
 holds-9 = refl
 
 holds-10 : Holds case-10

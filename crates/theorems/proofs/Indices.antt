@@ -24,7 +24,7 @@ use Rattle.path.proofs.Bounds.{Placed, place-iff, path-fits}
 use Rattle.plan.specs.Plan.{incrementOf, reachHolds}
 use Rattle.plan.proofs.Planned.{increment-some}
 use Rattle.position.proofs.Tests.{holds, Double, index-of}
-use Rattle.position.proofs.Steps.{Pace, Step, step-of, increment-near, steps-near}
+use Rattle.position.proofs.Steps.{Pace, Step, step-now, step-then, increment-near, steps-near}
 use Rattle.position.proofs.Path.{path-index}
 use Rattle.theorems.specs.Block.{indexAt, Outside, SomeOutside}
 use Rattle.theorems.proofs.Places.{floor-of, out-apart, out-else}
@@ -108,9 +108,7 @@ module _ (s : State) (q : Double (s .index)) (h : isState s ≡ true) (f : ℕ) 
   index-number =
       let v = valid s h in
       let x = index-of (s .index) q (holds (v .index-inside)) in
-      let now = step-of (s .current) (holds (v .current-ratio)) in
-      let then = step-of (s .target) (holds (v .target-ratio)) in
-      let w = walk-stays (stepNow s) (stepThen s) (s .index) now then (x .0) (x .1) (s .output) (omega arith) (v .output-few) (suc f) l .0 in
+      let w = walk-stays (stepNow s) (stepThen s) (s .index) (step-now s h) (step-then s h) (x .0) (x .1) (s .output) (omega arith) (v .output-few) (suc f) l .0 in
       subst (λ (d : Float). Number binary64 (pathAt (stepNow s) d (s .index) (suc f) .index)) (increment-some s (stepNow s) (stepThen s) (count (s .output)) (λ z. omega arith) refl refl refl)
       (subst (Number binary64) (sym (path-index (stepNow s) ((stepThen s -f stepNow s) /f count (s .output)) (s .index) (suc f))) w)
 

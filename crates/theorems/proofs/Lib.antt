@@ -14,5 +14,6 @@ pub mod Apart
 pub mod Blind
 pub mod Settled
 pub mod Lasting
+pub mod Steps
 pub mod Drift
 pub mod Kept

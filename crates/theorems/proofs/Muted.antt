@@ -1,7 +1,7 @@
 -- Document 02, R-1: the computed example holds, and two other rules would give other areas. Assumes nothing.
 use mathlib.Core.List.{[], _∷_}
 use mathlib.Core.Path.{_≡_, refl}
-use lib.Ieee.{add, sub, mul, div, neg, ofInt, ofBits, lt, le, eq}
+use lib.Ieee.{add, sub, mul, div, neg, ofInt, ofBits, toBits, lt, le, eq, fits, isNan}
 use Rattle.error.specs.Refusals.{unless}
 use Rattle.whole.specs.Rounded.{madeWhole}
 use Rattle.asynchro_fast.specs.Kernels.{interpOf}
@@ -20,7 +20,7 @@ use Rattle.theorems.specs.Bench.{wholes}
 use Rattle.theorems.specs.Muted.{gives, found}
 
 pub muted-holds : gives ≡ found
-unfolding unless madeWhole sizeOf neededInput neededOutput maxInput maxOutput isState updateLengths firstLengths construct pathAt placeFrom allReach planned moved loaded partsTo eachPart interpOf valueAt framesTo workAfter outputAfter add sub mul div neg ofInt ofBits lt le eq
+unfolding unless madeWhole sizeOf neededInput neededOutput maxInput maxOutput isState fits isNan toBits updateLengths firstLengths construct pathAt placeFrom allReach planned moved loaded partsTo eachPart interpOf valueAt framesTo workAfter outputAfter add sub mul div neg ofInt ofBits lt le eq
 muted-holds = refl
 
 -- the edit `muted_channel_not_moved` of crates/process: by the rule of before R-1 the second block leaves the area as it was, and not 0,0,0,1,1

@@ -26,8 +26,7 @@ use Rattle.plan.specs.Plan.{incrementOf, reachHolds}
 use Rattle.plan.proofs.Planned.{increment-some}
 use Rattle.cut.proofs.Frames.{index-inside}
 use Rattle.position.proofs.Amounts.{zero-exact}
-use Rattle.position.proofs.Tests.{holds}
-use Rattle.position.proofs.Steps.{Pace, Step, step-of, increment-near, steps-near}
+use Rattle.position.proofs.Steps.{Pace, Step, step-now, step-then, increment-near, steps-near}
 use Rattle.position.proofs.Flat.{add-zero}
 use Rattle.position.proofs.Path.{path-step}
 use Rattle.theorems.specs.Block.{indexAt}
@@ -122,7 +121,7 @@ module _ (s : State) (a : isState s ≡ true) (b : reachHolds s ≡ true) where
   step-held : (j : ℕ) → j ≤ s .output → 0 < s .output → (x : Float) → x ≡ pathAt (stepNow s) (incrementOf s) (s .index) j .step → Number binary64 x × AtMost (0, 0) (exact binary64 x)
   step-held j l p x e =
       let v = valid s a in
-      let r = step-up (stepNow s) (stepThen s) (step-of (s .current) (holds (v .current-ratio))) (step-of (s .target) (holds (v .target-ratio))) (s .output) p (v .output-few) j l in
+      let r = step-up (stepNow s) (stepThen s) (step-now s a) (step-then s a) (s .output) p (v .output-few) j l in
       let i = increment-some s (stepNow s) (stepThen s) (count (s .output)) (λ z. omega arith) refl refl refl in
       subst (λ (y : Float). Number binary64 y × AtMost (0, 0) (exact binary64 y))
       (ap (run binary64 j (stepNow s)) i ∙ sym (path-step (stepNow s) (incrementOf s) (s .index) j) ∙ sym e) r
