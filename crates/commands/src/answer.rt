@@ -91,15 +91,18 @@ fn put_floats(out: &mut [u8], at: usize, s: State) -> usize {
     put_float(out, p5, s.m)
 }
 
-// The record, and the maximum sizes that it has.
+// The record; the maximum sizes stand before its stored steps.
 fn put_state(out: &mut [u8], at: usize, s: State) -> usize {
-    let p = put_counts(out, at, s);
-    let q = put_floats(out, p, s);
-    put_maxima(out, q, s)
+    let p1 = put_counts(out, at, s);
+    let p2 = put_floats(out, p1, s);
+    let p3 = put_maxima(out, p2, s);
+    let p4 = put_float(out, p3, s.now);
+    put_float(out, p4, s.then)
 }
 
-fn put_ratio(out: &mut [u8], at: usize, ratio: Answer) -> usize {
-    match ratio {
+// The value of an accepted question.
+fn put_value(out: &mut [u8], at: usize, answer: Answer) -> usize {
+    match answer {
         Answer::Value(x) => put_float(out, at, x),
         Answer::Refused(_) => at,
     }
@@ -110,8 +113,14 @@ fn put_questions(out: &mut [u8], at: usize, s: State) -> usize {
     let p1 = put_count(out, at, number_in(questions::input_frames_next(s)));
     let p2 = put_count(out, p1, number_in(questions::output_frames_next(s)));
     let p3 = put_maxima(out, p2, s);
-    let p4 = put_ratio(out, p3, questions::resample_ratio(s));
+    let p4 = put_value(out, p3, questions::resample_ratio(s));
     put_count(out, p4, number_in(questions::output_delay(s)))
+}
+
+// step-now step-then
+fn put_steps(out: &mut [u8], at: usize, s: State) -> usize {
+    let p = put_value(out, at, questions::input_step_now(s));
+    put_value(out, p, questions::input_step_then(s))
 }
 
 // An area's first samples.
@@ -185,6 +194,7 @@ fn put_shown(
         Shown::State => put_state(out, at, state),
         Shown::Area => put_front(out, at, work, len),
         Shown::Questions => put_questions(out, at, state),
+        Shown::Steps => put_steps(out, at, state),
         Shown::Used(sizes, n) => put_block(out, at, sizes, output, n, state),
     }
 }

@@ -39,6 +39,7 @@ fn told(command: Command, state: State, values: &[u64], input: &[f64]) -> Said {
     match command {
         Command::Area => Said::Kept(Shown::Area),
         Command::Q => record::questions(state),
+        Command::QSteps => record::step_questions(state),
         Command::K => leaves::kernel(values, input),
         Command::SLin => leaves::blend(2, values, input),
         Command::SQuad => leaves::blend(3, values, input),
@@ -59,6 +60,7 @@ fn run_apart(command: Command, kept: Kept, values: &[u64], input: &[f64]) -> Cha
     let len = kept.len;
     match command {
         Command::Rec => record::rec(len, values),
+        Command::Steps => record::steps(state, len, values),
         Command::Abs => record::abs(state, len, values),
         Command::Rel => record::rel(state, len, values),
         Command::Chunk => record::chunk(state, len, values),

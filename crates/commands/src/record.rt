@@ -5,6 +5,7 @@ use crate::said::number_in;
 use asynchro::Done;
 use asynchro::Outcome;
 use asynchro_fast::PolynomialDegree;
+use error::Answer;
 use error::Refusal;
 use printer::samples_of;
 use process::BlockOutcome;
@@ -50,6 +51,8 @@ pub fn nothing() -> Kept {
         original: 0.0,
         current: 0.0,
         target: 0.0,
+        now: 0.0,
+        then: 0.0,
         m: 0.0,
         degree,
         fixed,
@@ -136,10 +139,12 @@ pub fn new(kept: Kept, values: &[u64], work: &mut [f64]) -> Change {
     }
 }
 
-// Any record, unchecked.
+// Any record, unchecked. Its steps are those of its ratios.
 pub fn rec(len: usize, values: &[u64]) -> Change {
     let degree = degree_at(values, 0);
     let fixed = side_at(values, 1);
+    let current = float_at(values, 6);
+    let target = float_at(values, 7);
     let state = State {
         channels: count_at(values, 2),
         chunk: count_at(values, 3),
@@ -149,13 +154,23 @@ pub fn rec(len: usize, values: &[u64]) -> Change {
         fill: count_at(values, 10),
         index: float_at(values, 9),
         original: float_at(values, 5),
-        current: float_at(values, 6),
-        target: float_at(values, 7),
+        current,
+        target,
+        now: state::step_of(current),
+        then: state::step_of(target),
         m: float_at(values, 8),
         degree,
         fixed,
     };
     changed(state, len, Said::Kept(Shown::Nothing))
+}
+
+// Any two steps, unchecked.
+pub fn steps(state: State, len: usize, values: &[u64]) -> Change {
+    let mut put = state;
+    put.now = float_at(values, 0);
+    put.then = float_at(values, 1);
+    changed(put, len, Said::Kept(Shown::Nothing))
 }
 
 // The first n samples of the input become the working area; how many there are.
@@ -232,5 +247,12 @@ pub fn questions(state: State) -> Said {
     match questions::input_frames_next(state) {
         Count::Number(_) => Said::Kept(Shown::Questions),
         Count::Refused(r) => Said::Refused(r),
+    }
+}
+
+pub fn step_questions(state: State) -> Said {
+    match questions::input_step_now(state) {
+        Answer::Value(_) => Said::Kept(Shown::Steps),
+        Answer::Refused(r) => Said::Refused(r),
     }
 }

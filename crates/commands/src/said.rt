@@ -26,6 +26,8 @@ pub enum Shown {
     Area,
     // The answers to the questions about the record.
     Questions,
+    // The answers to the questions about its steps.
+    Steps,
     // The sizes that a block used, and how many samples the output area has.
     Used(Sizes, usize),
 }

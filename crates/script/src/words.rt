@@ -13,6 +13,8 @@ pub enum Command {
     Reset,
     Block,
     Q,
+    Steps,
+    QSteps,
     K,
     SLin,
     SQuad,
@@ -41,6 +43,8 @@ pub fn command_of(name: u64) -> Command {
         0x1_7265736574 => Command::Reset,
         0x1_626c6f636b => Command::Block,
         0x1_71 => Command::Q,
+        0x1_7374657073 => Command::Steps,
+        0x1_717374657073 => Command::QSteps,
         0x1_6b => Command::K,
         0x1_736c696e => Command::SLin,
         0x1_7371756164 => Command::SQuad,
@@ -72,6 +76,8 @@ pub fn kinds_of(name: u64) -> u64 {
         0x1_72656c => 0x51,
         // chunk n
         0x1_6368756e6b => 2,
+        // steps now then
+        0x1_7374657073 => 0x11,
         // block count mask IN OUT
         0x1_626c6f636b => 0x9822,
         // k L x AREA
