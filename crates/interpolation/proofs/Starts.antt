@@ -16,19 +16,15 @@ use Rattle.whole.specs.Rounded.{floorOf, splitOf}
 use Rattle.whole.specs.declared.Parts.{Parts}
 use Rattle.whole.proofs.Casts.{counted-signed}
 use Rattle.whole.proofs.Counts.{floor-counted}
+use Rattle.whole.proofs.Small.{small-number, floor-cast}
 use Rattle.whole.proofs.Splits.{split-frac}
 use Rattle.interpolation.specs.Grid.{inRange}
 use Rattle.interpolation.specs.Steps.{innerOf, wholeBy, beginOf, Ready}
 use Rattle.interpolation.specs.declared.Inner.{Inner}
 use Rattle.interpolation.specs.declared.Start.{Start}
 use Rattle.interpolation.proofs.Integers.{pairOf, abs-fits}
-use Rattle.interpolation.proofs.Range.{in-range, small-number}
+use Rattle.interpolation.proofs.Range.{in-range}
 use Rattle.interpolation.proofs.Product.{UpTo, WholeUpTo, product-up-to, floor-whole, round-whole-up-to, whole-cast, whole-value}
-
-signed-abs : (s : Bool) (n b : ℕ) → n ≤ b → natAbs (cond s (negℤ (pos n)) (pos n)) ≤ b
-signed-abs false n b h = h
-signed-abs true zero b h = h
-signed-abs true (suc n) b h = h
 
 -- n ones of U units each, with a sign
 ones-value : (U : ℕ) (s : Bool) (n : ℕ) → Same (signed s (n * U)) (U ⊙ pairOf (cond s (negℤ (pos n)) (pos n)))
@@ -49,12 +45,8 @@ module _ (t : Float) (factor : ℕ) (f : T (fits binary64 t)) (h : inRange 1 t f
   number : Number binary64 t × Below (2 ^ (52 + low binary64)) (exact binary64 t)
   number = small-number t f (in-range 1 t factor h .0)
 
-  -- what the cast of floor(t) asks, and its size
-  pub floor-cast : T (le (fin true 1 (pos 63)) (floorOf t)) × T (lt (floorOf t) (fin false 1 (pos 63))) × (natAbs (toSigned 63 (floorOf t)) ≤ 4503599627370496)
-  floor-cast =
-      let c = floor-counted 52 t (number .0) (number .1) in
-      let s = counted-signed 52 (floorOf t) c (lit≤ tt) in
-      (s .0, s .1, rw (s .2) (signed-abs (c .sign) (c .ones) 4503599627370496 (c .atMost)))
+  pub cast : T (le (fin true 1 (pos 63)) (floorOf t)) × T (lt (floorOf t) (fin false 1 (pos 63))) × (natAbs (toSigned 63 (floorOf t)) ≤ 4503599627370496)
+  cast = floor-cast t f (in-range 1 t factor h .0)
 
   -- nothing is cut: the index is the value of floor(t)
   pub index-value : Same (exact binary64 (splitOf t .floor)) (2 ^ low binary64 ⊙ pairOf (innerOf t factor .index))
@@ -70,7 +62,7 @@ module _ (t : Float) (factor : ℕ) (f : T (fits binary64 t)) (h : inRange 1 t f
 
   -- what the machine has is what the definition says
   index-back : (i : ℤ) → i ≡ innerOf t factor .index → toZ w64 (ofZ w64 i) ≡ innerOf t factor .index
-  index-back i e = ap (λ (z : ℤ). toZ w64 (ofZ w64 z)) e ∙ toZ-ofZ w64 (innerOf t factor .index) (abs-fits (innerOf t factor .index) (omega (arith, floor-cast .2)))
+  index-back i e = ap (λ (z : ℤ). toZ w64 (ofZ w64 z)) e ∙ toZ-ofZ w64 (innerOf t factor .index) (abs-fits (innerOf t factor .index) (omega (arith, cast .2)))
 
   pub inner-is : (s : Parts) (i : ℤ) (n : Float) → s ≡ splitOf t → i ≡ toSigned 63 (s .floor) → n ≡ count factor → inner (toZ w64 (ofZ w64 i)) (s .frac *f n) ≡ innerOf t factor
   inner-is s i n p q r =
@@ -102,4 +94,4 @@ module _ (t : Float) (factor : ℕ) (f : T (fits binary64 t)) (h : inRange 1 t f
     start-is k r =
         let c = whole-cast factor (wholeBy nearest (innerOf t factor .product)) (product-whole nearest) in
         let e = ap (λ (z : ℤ). start z k) (index-back (i .index) (ap (λ (i : Inner). i .index) p)) ∙ ap (start (innerOf t factor .index)) (r ∙ ap (toUnsigned 64) whole-is) in
-        (e, subst (Ready factor) (sym e) (floor-cast .2, c .2, in-range 1 t factor h .1, in-range 1 t factor h .2))
+        (e, subst (Ready factor) (sym e) (cast .2, c .2, in-range 1 t factor h .1, in-range 1 t factor h .2))

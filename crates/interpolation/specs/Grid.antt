@@ -5,10 +5,11 @@ use mathlib.Core.Path.{_≡_}
 use Prim.Native.Nat.{ℕ, _-_, _/_, _%_, _<_}
 use lib.Dec.{leb}
 use lib.IntN.{ℤ, pos, negsuc, _+ℤ_, _*ℤ_}
-use lib.Ieee.{Float, binary64, neg, lt, ofBits, toSigned, toUnsigned}
+use lib.Ieee.{Float, toSigned, toUnsigned}
 use Rattle.exact.specs.Doubles.{_*f_, count}
 use Rattle.error.specs.Refusals.{numberOf, valuesOf, Said, given, refused, unless}
 use Rattle.whole.specs.Rounded.{floorOf, roundOf, splitOf}
+use Rattle.whole.specs.Small.{small}
 use Rattle.interpolation.specs.declared.Point.{Point}
 use Rattle.interpolation.specs.declared.Times1.{Times1}
 use Rattle.interpolation.specs.declared.Times1.the-variants as times1
@@ -19,15 +20,7 @@ use Rattle.interpolation.specs.declared.Times3.the-variants as times3
 use Rattle.interpolation.specs.declared.Times4.{Times4}
 use Rattle.interpolation.specs.declared.Times4.the-variants as times4
 
--- 2 ^ 52
-abbrev pub limitF : Float
-limitF = ofBits binary64 0x4330_0000_0000_0000
-
--- "|t| below 2^52": false for a NaN
-abbrev pub small : Float → Bool
-small t = lt (neg limitF) t && lt t limitF
-
--- "factor 1 to 2^20 (3 to 2^20 for three and four points)"
+-- "|t| below 2^52", "factor 1 to 2^20 (3 to 2^20 for three and four points)"
 abbrev pub inRange : ℕ → Float → ℕ → Bool
 inRange least t factor = small t && leb least factor && leb factor 1048576
 

@@ -10,4 +10,5 @@ pub mod Values
 pub mod Splits
 pub mod Counts
 pub mod Casts
+pub mod Small
 pub mod Examples

@@ -1,0 +1,3 @@
+-- Laws of the quarter wave. Assumes nothing.
+pub mod Table
+pub mod Rules
