@@ -6,7 +6,11 @@ use native.Mathlib.Omega.{arith}
 use lib.Dec.{T, ltb, ltb→lt, nltb→le}
 use lib.IntN.{ℤ, pos, negsuc, negℤ, natAbs, subℕ, _+ℤ_, _-ℤ_}
 use Rattle.exact.specs.Whole.{Whole, _⊕_, Within}
-use Rattle.exact.specs.Integers.{Is}
+use Rattle.exact.specs.Integers.{Is, pairOf}
+
+pub pair-is : (z : ℤ) → Is z (pairOf z)
+pair-is (pos n) = omega arith
+pair-is (negsuc n) = omega arith
 
 pub minus-is : (a b : ℕ) → Is (subℕ a b) (a, b)
 minus-is a b = go (ltb a b) (ltb→lt a b) (nltb→le a b)

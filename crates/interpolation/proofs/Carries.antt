@@ -7,12 +7,13 @@ use lib.IntN.{ℤ, pos, negsuc, natAbs, _+ℤ_, _-ℤ_, _*ℤ_, +ℤ-idr, +ℤ-a
 use mir.Syntax.{w64}
 use mir.Val.{SFits}
 use Rattle.exact.specs.Whole.{Whole, _⊕_, _⊙_}
-use Rattle.exact.specs.Integers.{Is}
-use Rattle.exact.proofs.Integers.{plus-is, abs-le}
+use Rattle.exact.specs.Integers.{pairOf, Is}
+use Rattle.exact.proofs.Integers.{pair-is, plus-is, abs-le}
+use Rattle.whole.proofs.Casts.{abs-fits}
 use Rattle.interpolation.specs.Grid.{pointOf}
 use Rattle.interpolation.specs.Steps.{startQ}
 use Rattle.interpolation.specs.declared.Start.{Start}
-use Rattle.interpolation.proofs.Integers.{pairOf, pair-is, pair-abs, same-int, abs-fits, at-is}
+use Rattle.interpolation.proofs.Integers.{pair-abs, same-int, at-is}
 use Rattle.interpolation.proofs.Points.{point-unique}
 
 -- so many turns were made

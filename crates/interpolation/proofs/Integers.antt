@@ -7,17 +7,9 @@ use mir.Syntax.{w64}
 use mir.Val.{SFits, toZ, ofZ}
 use mir.ValLaws.{toZ-ofZ}
 use Rattle.exact.specs.Whole.{Whole, _⊕_, _⊙_, Same}
-use Rattle.exact.specs.Integers.{Is}
-use Rattle.exact.proofs.Integers.{neg-is, plus-is, abs-le}
-
--- one pair for each
-abbrev pub pairOf : ℤ → Whole
-pairOf (pos n) = (n, 0)
-pairOf (negsuc n) = (0, suc n)
-
-pub pair-is : (z : ℤ) → Is z (pairOf z)
-pair-is (pos n) = omega arith
-pair-is (negsuc n) = omega arith
+use Rattle.exact.specs.Integers.{pairOf, Is}
+use Rattle.exact.proofs.Integers.{pair-is, neg-is, plus-is, abs-le}
+use Rattle.whole.proofs.Casts.{abs-fits}
 
 pub same-int : (z y : ℤ) (v w : Whole) → Is z v → Is y w → Same v w → z ≡ y
 same-int (pos a) (pos b) v w h k e = ap pos (omega arith)
@@ -40,11 +32,6 @@ at-is z n m v h = plus-is (z *ℤ pos n) (pos m) (n ⊙ v) (m, 0) (by-is z n v h
 pub pair-abs : (z : ℤ) → (pairOf z .0 ≤ natAbs z) × (pairOf z .1 ≤ natAbs z)
 pair-abs (pos n) = omega arith
 pair-abs (negsuc n) = omega arith
-
--- what is no larger than 2 ^ 62 is an i64
-pub abs-fits : (z : ℤ) → natAbs z ≤ 4611686018427387904 → SFits w64 z
-abs-fits (pos n) h = record { sfits = omega arith }
-abs-fits (negsuc n) h = record { sfits = omega arith }
 
 -- one less, in the machine: what it asks, and what it gives
 pub lowered : (z : ℤ) → natAbs z ≤ 4503599627370496 → SFits w64 (toZ w64 (ofZ w64 z) -ℤ pos 1) × (toZ w64 (ofZ w64 (toZ w64 (ofZ w64 z) -ℤ pos 1)) ≡ z -ℤ pos 1)

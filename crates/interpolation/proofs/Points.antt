@@ -5,10 +5,11 @@ use native.Mathlib.Nat.{mod-lt, div-add-mod', div-eq-of-lt, mul-add-div-right}
 use native.Mathlib.Omega.{arith}
 use lib.IntN.{ℤ, pos, negsuc, _+ℤ_, _*ℤ_}
 use Rattle.exact.specs.Whole.{_⊕_, _⊙_}
-use Rattle.exact.specs.Integers.{Is}
+use Rattle.exact.specs.Integers.{pairOf, Is}
+use Rattle.exact.proofs.Integers.{pair-is}
 use Rattle.interpolation.specs.Grid.{Numbered, pointOf}
 use Rattle.interpolation.specs.declared.Point.{Point}
-use Rattle.interpolation.proofs.Integers.{pairOf, pair-is, same-int, is-same, at-is}
+use Rattle.interpolation.proofs.Integers.{same-int, is-same, at-is}
 
 pub point-equation : (factor : ℕ) (q : ℤ) → 0 < factor → Numbered factor q (pointOf factor q)
 unfolding pointOf

@@ -12,9 +12,10 @@ use mir.ValLaws.{toZ-ofZ}
 use Rattle.exact.specs.Doubles.{count, _*f_}
 use Rattle.exact.specs.Whole.{Whole, signed, _⊙_, Same, AtMost, Below}
 use Rattle.exact.specs.Exact.{exact, Number}
+use Rattle.exact.specs.Integers.{pairOf}
 use Rattle.whole.specs.Rounded.{floorOf, splitOf}
 use Rattle.whole.specs.declared.Parts.{Parts}
-use Rattle.whole.proofs.Casts.{counted-signed}
+use Rattle.whole.proofs.Casts.{abs-fits, counted-signed}
 use Rattle.whole.proofs.Counts.{floor-counted}
 use Rattle.whole.proofs.Small.{small-number, floor-cast}
 use Rattle.whole.proofs.Splits.{split-frac}
@@ -22,7 +23,6 @@ use Rattle.interpolation.specs.Grid.{inRange}
 use Rattle.interpolation.specs.Steps.{innerOf, wholeBy, beginOf, Ready}
 use Rattle.interpolation.specs.declared.Inner.{Inner}
 use Rattle.interpolation.specs.declared.Start.{Start}
-use Rattle.interpolation.proofs.Integers.{pairOf, abs-fits}
 use Rattle.interpolation.proofs.Range.{in-range}
 use Rattle.interpolation.proofs.Product.{UpTo, WholeUpTo, product-up-to, floor-whole, round-whole-up-to, whole-cast, whole-value}
 

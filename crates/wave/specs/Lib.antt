@@ -1,3 +1,4 @@
 -- The wave carried on to every whole number of steps, and the cosine and sine by it. Definitions only.
 pub mod Carried
 pub mod Cosine
+pub mod Turns

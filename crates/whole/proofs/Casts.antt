@@ -5,16 +5,23 @@ use Prim.Native.Nat.{ℕ, zero, suc, _+_, _*_, _/_, _^_, _≤_, _<_}
 use native.Mathlib.Nat.{le-trans, zero-mul, mul-one, mul-div-cancel, mul-le-mul-right, min-eq-left}
 use native.Mathlib.Omega.{arith}
 use lib.Dec.{T, lt→ltb}
-use lib.IntN.{ℤ, pos, negℤ}
+use lib.IntN.{ℤ, pos, negsuc, negℤ, natAbs}
 use lib.Ieee.{Float, nan, inf, fin, binary64, low, up, down, toUnsigned, toSigned, lt, eq, le}
 use lib.Ieee.Back.{round-whole}
 use lib.Ieee.Exact.{HasValue}
 use lib.Ieee.Fits.{down-pos}
 use lib.Pow.{pow-pos, pow-mono}
+use mir.Syntax.{w64}
+use mir.Val.{SFits}
 use Rattle.exact.specs.Whole.{signed, AtMost}
 use Rattle.exact.specs.Exact.{exact}
 use Rattle.whole.specs.Numbers.{Counted}
 use Rattle.whole.proofs.Held.{wholeF-value}
+
+-- what is no larger than 2 ^ 62 is an i64
+pub abs-fits : (z : ℤ) → natAbs z ≤ 4611686018427387904 → SFits w64 z
+abs-fits (pos n) h = record { sfits = omega arith }
+abs-fits (negsuc n) h = record { sfits = omega arith }
 
 cut-is : (m : ℕ) (e : ℤ) (n : ℕ) → m * up e * 1 ≡ n * down e → m * up e / down e ≡ n
 cut-is m e n h = ap (λ (x : ℕ). x / down e) (sym (mul-one (m * up e)) ∙ h) ∙ mul-div-cancel n (down-pos e)

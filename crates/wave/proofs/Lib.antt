@@ -1,0 +1,4 @@
+-- Laws of the wave. Assumes nothing.
+pub mod Places
+pub mod Quarters
+pub mod Lines
