@@ -5,6 +5,7 @@ pub mod Rounding
 pub mod Sums
 pub mod Products
 pub mod Order
+pub mod Sizes
 pub mod Running
 pub mod Integers
 pub mod Doubles

@@ -1,19 +1,17 @@
 -- The line by places is the line by whole numbers: the cosine and the sine. Assumes nothing.
-use mathlib.Core.Path.{_≡_, sym, ap, _∙_}
+use mathlib.Core.Path.{_≡_, sym, _∙_}
 use Prim.Native.Nat.{ℕ, _+_, _%_, _≤_, _<_}
 use native.Mathlib.Omega.{arith}
 use lib.Dec.{T}
 use lib.IntN.{ℤ, pos, _+ℤ_, _-ℤ_}
-use lib.Ieee.{Float, binary64, fits, ofInt, toSigned}
+use lib.Ieee.{Float, binary64, fits, toSigned}
 use mathlib.Core.Bool.{true}
-use Rattle.exact.specs.Doubles.{_*f_}
-use Rattle.exact.specs.Samples.{lineOn}
 use Rattle.whole.specs.declared.Parts.{Parts}
 use Rattle.whole.specs.Rounded.{splitOf}
 use Rattle.whole.specs.Small.{small}
 use Rattle.whole.proofs.Small.{floor-cast}
-use Rattle.wave.specs.Carried.{placeOf, turned}
-use Rattle.wave.specs.Cosine.{scaleF, between, stepsOf, cosineAt, sineAt}
+use Rattle.wave.specs.Carried.{placeOf}
+use Rattle.wave.specs.Cosine.{between, stepsOf, cosineAt, sineAt}
 use Rattle.wave.specs.Turns.{Castable, lineFrom, lineAt}
 use Rattle.wave.proofs.Places.{place-inside, place-plus, place-back}
 

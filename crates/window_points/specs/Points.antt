@@ -1,6 +1,5 @@
 -- Document 02, R-3: "the six windows (Hann, Blackman, Blackman-Harris and squares, periodic)". Definitions only.
 -- A constant is given by its bit pattern, as the code has it; proofs/Constants.antt says which decimal each is.
-use mathlib.Core.Bool.{Bool, true, false, cond}
 use Prim.Native.Nat.{ℕ, _*_}
 use lib.Ieee.{Float, binary64, ofBits}
 use Rattle.exact.specs.Doubles.{_+f_, _-f_, _*f_, _/f_, count, halfF}

@@ -1,6 +1,5 @@
 -- `wave::in_quarter` reads the entry, mirrored and negated by its quarter. Assumes nothing.
 use borrow.Author.Needs.{needs}
-use denote.Ref.{now}
 use native.Mathlib.Omega.{arith}
 use Rattle.wave.proofs.Quarters.{in-table, first, second, third, fourth}
 use Rattle.wave.proofs.in_quarter.Statement.{statement}

@@ -1,0 +1,47 @@
+-- An area that is filled from the front: what is written so far, and the rest as it was. For this crate and `sincs`. Assumes nothing.
+use mathlib.Core.List.{List, [], _∷_, _++_, append-assoc, append-nil}
+use mathlib.Core.Path.{_≡_, refl, sym, ap, _∙_}
+use Prim.Native.Nat.{ℕ, zero, suc, _+_, _≤_, _<_}
+use native.Mathlib.Numerals.{add-one}
+use native.Mathlib.Omega.{arith}
+use lib.Ieee.{Float}
+use lib.ListN.{length, drop, getD, set, length-append, length-drop, drop-of-length-le}
+use lib.Seq.{drop-cons, set-at}
+use Rattle.window_points.specs.Filled.{listed}
+
+pub listed-long : (f : ℕ → Float) (n : ℕ) → length (listed f n) ≡ n
+unfolding listed
+listed-long f zero = refl
+listed-long f (suc n) = length-append (listed f n) (f n ∷ []) ∙ ap (λ (k : ℕ). k + 1) (listed-long f n) ∙ add-one n
+
+-- the first i values stand in the area, and the rest is as it was
+pub record Filling (f : ℕ → Float) (old now : List Float) (i : ℕ) : Type 0 where
+  pub inside : i ≤ length old
+  pub is : now ≡ listed f i ++ drop i old
+
+module _ (f : ℕ → Float) (old : List Float) where
+  pub filling-none : Filling f old old 0
+  unfolding listed
+  filling-none = record { inside = omega arith; is = refl }
+
+  pub filling-next : (now : List Float) (i : ℕ) (y : Float) → Filling f old now i → i < length old → y ≡ f i → Filling f old (set now i y) (i + 1)
+  unfolding listed
+  filling-next now i y p h e = record {
+    inside = omega arith;
+    is =
+        ap (λ (l : List Float). set l i y) (p .is ∙ ap (λ (l : List Float). listed f i ++ l) (drop-cons old i y h))
+        ∙ set-at (listed f i) (getD old i y) (drop (suc i) old) y i (listed-long f i)
+        ∙ ap (λ (v : Float). listed f i ++ v ∷ drop (suc i) old) e
+        ∙ sym (append-assoc (listed f i) (f i ∷ []) (drop (suc i) old))
+        ∙ ap (λ (k : ℕ). listed f k ++ drop k old) (sym (add-one i));
+  }
+
+  -- as long as the area was
+  pub filling-long : (now : List Float) (i : ℕ) → Filling f old now i → length now ≡ length old
+  filling-long now i p = ap length (p .is) ∙ length-append (listed f i) (drop i old) ∙ rw (listed-long f i, length-drop) (omega (arith, p .inside))
+
+  -- filled
+  pub filling-done : (now : List Float) (i : ℕ) → Filling f old now i → length old ≤ i → now ≡ listed f (length old)
+  filling-done now i p h =
+      let e : i ≡ length old = omega (arith, p .inside) in
+      p .is ∙ ap (λ (l : List Float). listed f i ++ l) (drop-of-length-le old h) ∙ append-nil (listed f i) ∙ ap (listed f) e
