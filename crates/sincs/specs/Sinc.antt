@@ -15,9 +15,13 @@ tinyF = ofBits binary64 0x3e40_0000_0000_0000
 abbrev pub piF : Float
 piF = ofBits binary64 0x4009_21fb_5444_2d18
 
+-- 2048: half a turn, in steps of the wave
+abbrev pub halfTurnF : Float
+halfTurnF = ofBits binary64 0x40a0_0000_0000_0000
+
 -- pi*v in steps of the wave
 abbrev pub stepsOf : Float → Float
-stepsOf v = count 2048 *f v
+stepsOf v = halfTurnF *f v
 
 -- |v| below 2^-27: there sinc is within 2^-53 of 1
 abbrev pub tiny : Float → Bool

@@ -104,8 +104,9 @@ fn fill(
     ensures { λ _. ⌜ now (sincs .exit) ≡ listed (entryAt points factor cutoff windowfunc) (points * factor) ⌝ }
 {
     let sum = sum_of(table, points, factor, cutoff, windowfunc);
+    let total = sincs.len();
     let mut j = 0;
-    while j < sincs.len() {
+    while j < total {
         let x = value_no(points, factor, j);
         sincs[j] = value_at(table, points, factor, cutoff, windowfunc, x) / sum;
         j += 1;
@@ -138,19 +139,19 @@ fn cutoff_holds(cutoff: f64) -> bool
 pub fn make_sincs(
     npoints: usize,
     factor: usize,
-    f_cutoff: f64,
+    cutoff: f64,
     windowfunc: WindowFunction,
     sincs: &mut [f64],
 ) -> Built
-    ensures { λ r. ⌜ builtLeft r (now (sincs .exit)) ≡ sincsOf npoints factor f_cutoff windowfunc (now (sincs .entry)) ⌝ }
+    ensures { λ r. ⌜ builtLeft r (now (sincs .exit)) ≡ sincsOf npoints factor cutoff windowfunc (now (sincs .entry)) ⌝ }
 {
-    if !(product_holds(npoints, factor) & cutoff_holds(f_cutoff)) {
+    if !(product_holds(npoints, factor) & cutoff_holds(cutoff)) {
         return Built::Refused(Refusal::Argument);
     }
     if sincs.len() != npoints * factor {
         return Built::Refused(Refusal::BufferShape);
     }
     let table = quarter::quarter_wave();
-    fill(&table, npoints, factor, f_cutoff, windowfunc, sincs);
+    fill(&table, npoints, factor, cutoff, windowfunc, sincs);
     Built::Done
 }

@@ -1,0 +1,3 @@
+-- Laws of the table of sincs. Assumes nothing.
+pub mod Bounds
+pub mod Entries

@@ -1,0 +1,24 @@
+-- `sincs::product_holds`: the product is formed where it is small. Assumes nothing.
+use native.Mathlib.Omega.{arith}
+use Rattle.sincs.proofs.Bounds.{product-none, product-large, product-most, product-least}
+use borrow.Author.Needs.{needs}
+use Rattle.sincs.proofs.product_holds.Statement.{statement}
+use Rattle.sincs.proofs.product_holds.Tie as tie
+
+returns : tie.Need-returns
+returns c = product-none (c .before .args .points) (c .before .args .factor) (c .if1 .taken)
+
+div-if2 : tie.Need-div-if2
+div-if2 c = search needs
+
+returns-2 : tie.Need-returns-2
+returns-2 c = product-large (c .before .before .args .points) (c .before .before .args .factor) (omega arith) (c .if2 .taken)
+
+mul-result : tie.Need-mul-result
+mul-result c = record { fits = omega (arith, product-most (c .before .before .args .points) (c .before .before .args .factor) (omega arith) (c .if2 .left)) }
+
+returns-3 : tie.Need-returns-3
+returns-3 c = product-least (c .before .before .args .points) (c .before .before .args .factor) (omega arith) (c .if2 .left)
+
+pub product-holds-spec : {M : Type 1} → statement M
+product-holds-spec = tie.close (tie.spec returns div-if2 returns-2 mul-result returns-3)
