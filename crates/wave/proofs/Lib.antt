@@ -2,3 +2,4 @@
 pub mod Places
 pub mod Quarters
 pub mod Lines
+pub mod Carried
