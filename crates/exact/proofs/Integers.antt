@@ -12,6 +12,10 @@ pub pair-is : (z : ℤ) → Is z (pairOf z)
 pair-is (pos n) = omega arith
 pair-is (negsuc n) = omega arith
 
+pub pair-abs : (z : ℤ) → (pairOf z .0 ≤ natAbs z) × (pairOf z .1 ≤ natAbs z)
+pair-abs (pos n) = omega arith
+pair-abs (negsuc n) = omega arith
+
 pub minus-is : (a b : ℕ) → Is (subℕ a b) (a, b)
 minus-is a b = go (ltb a b) (ltb→lt a b) (nltb→le a b)
   where

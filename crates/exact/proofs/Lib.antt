@@ -6,6 +6,7 @@ pub mod Sums
 pub mod Products
 pub mod Order
 pub mod Sizes
+pub mod Monotone
 pub mod Running
 pub mod Integers
 pub mod Doubles

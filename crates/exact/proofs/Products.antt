@@ -5,11 +5,12 @@ use Prim.Native.Nat.{ℕ, _+_, _*_, _/_, _^_, _≤_, _<_}
 use native.Mathlib.Nat.{eq-of-mul-eq-mul-right, pos-of-ne-zero, le-of-mul-le-mul-left, mul-one, mul-right-comm, mul-mul-mul-comm, mul-pos, zero-mul, zero-div, lt-irrefl}
 use native.Mathlib.Omega.{arith}
 use lib.Dec.{T, eqb, eqb→eq}
-use lib.Ieee.{Float, nan, inf, fin, Format, prec, emax, low, up, down, unlike, round, mul, div}
+use lib.Ieee.{Float, nan, inf, fin, Format, prec, emax, low, up, down, unlike, round, fits, mul, div}
 use lib.Ieee.Back.{round-whole}
 use lib.Ieee.Exact.{HasValue}
 use lib.Ieee.Fits.{up-pos, down-pos}
 use lib.Ieee.Scale.{round-same}
+use lib.IntN.{ℤ}
 use lib.Pow.{pow-pos}
 use Rattle.exact.specs.Whole.{Whole, signed, _⊙_, _⊗_, Below, Within}
 use Rattle.exact.specs.Exact.{mag, exact, Number}
@@ -43,10 +44,19 @@ once L e a true v P h =
     let q : L * (L * v .1) ≤ L * (L * v .0 + a + L * e) = omega arith in
     omega (arith, le-of-mul-le-mul-left p P, le-of-mul-le-mul-left q P)
 
+-- the product is one rounding of the sizes' product
+pub mul-is : (f : Format) (s t : Bool) (m n : ℕ) (e d : ℤ) → T (fits f (fin s m e)) → T (fits f (fin t n d))
+    → mul f (fin s m e) (fin t n d) ≡ round f (unlike s t) (mag f (fin s m e) * mag f (fin t n d)) (2 ^ low f * 2 ^ low f)
+unfolding mul
+mul-is f s t m n e d p q =
+    let P = pow-pos (low f) in
+    round-same f (unlike s t) (m * up e * (n * up d)) (down e * down d) (mag f (fin s m e) * mag f (fin t n d)) (2 ^ low f * 2 ^ low f) (mul-pos (down-pos e) (down-pos d)) (mul-pos P P)
+    (times (2 ^ low f) (m * up e) (n * up d) (mag f (fin s m e)) (mag f (fin t n d)) (down e) (down d) (mag-exact f (fin s m e) p) (mag-exact f (fin t n d) q))
+
 -- the exact product is below 2 ^ k
 pub mul-near : (f : Format) (k : ℕ) (x y : Float) → Number f x → Number f y → k ≤ emax f → Below (2 ^ k * (2 ^ low f * 2 ^ low f)) (exact f x ⊗ exact f y)
     → Number f (mul f x y) × Within (2 ^ low f * slack f k) (2 ^ low f ⊙ exact f (mul f x y)) (exact f x ⊗ exact f y)
-unfolding mul exact
+unfolding exact
 mul-near f k nan y p q l h = absurd (p .0)
 mul-near f k (inf s) y p q l h = absurd (p .0)
 mul-near f k (fin s m e) nan p q l h = absurd (q .0)
@@ -56,10 +66,8 @@ mul-near f k (fin s m e) (fin t n d) p q l h =
     let a = mag f (fin s m e) in
     let b = mag f (fin t n d) in
     let P = pow-pos (low f) in
-    let is = round-same f (unlike s t) (m * up e * (n * up d)) (down e * down d) (a * b) (L * L) (mul-pos (down-pos e) (down-pos d)) (mul-pos P P)
-    (times L (m * up e) (n * up d) a b (down e) (down d) (mag-exact f (fin s m e) (p .1)) (mag-exact f (fin t n d) (q .1))) in
     let r = round-near f (unlike s t) (a * b) (L * L) k (mul-pos P P) (product-below s t a b (2 ^ k * (L * L)) h) l in
-    subst (λ (z : Float). Number f z × Within (L * slack f k) (L ⊙ exact f z) (signed s a ⊗ signed t b)) (sym is)
+    subst (λ (z : Float). Number f z × Within (L * slack f k) (L ⊙ exact f z) (signed s a ⊗ signed t b)) (sym (mul-is f s t m n e d (p .1) (q .1)))
     (r .0, product-sign s t a b (L * slack f k) (L ⊙ exact f (round f (unlike s t) (a * b) (L * L))) (once L (slack f k) (a * b) (unlike s t) (exact f (round f (unlike s t) (a * b) (L * L))) P (r .1)))
 
 -- ---- the quotient, multiplied by the divisor

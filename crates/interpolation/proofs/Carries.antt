@@ -8,12 +8,12 @@ use mir.Syntax.{w64}
 use mir.Val.{SFits}
 use Rattle.exact.specs.Whole.{Whole, _⊕_, _⊙_}
 use Rattle.exact.specs.Integers.{pairOf, Is}
-use Rattle.exact.proofs.Integers.{pair-is, plus-is, abs-le}
+use Rattle.exact.proofs.Integers.{pair-is, pair-abs, plus-is, abs-le}
 use Rattle.whole.proofs.Casts.{abs-fits}
 use Rattle.interpolation.specs.Grid.{pointOf}
 use Rattle.interpolation.specs.Steps.{startQ}
 use Rattle.interpolation.specs.declared.Start.{Start}
-use Rattle.interpolation.proofs.Integers.{pair-abs, same-int, at-is}
+use Rattle.interpolation.proofs.Integers.{same-int, at-is}
 use Rattle.interpolation.proofs.Points.{point-unique}
 
 -- so many turns were made

@@ -8,7 +8,7 @@ use mir.Val.{SFits, toZ, ofZ}
 use mir.ValLaws.{toZ-ofZ}
 use Rattle.exact.specs.Whole.{Whole, _⊕_, _⊙_, Same}
 use Rattle.exact.specs.Integers.{pairOf, Is}
-use Rattle.exact.proofs.Integers.{pair-is, neg-is, plus-is, abs-le}
+use Rattle.exact.proofs.Integers.{pair-is, pair-abs, neg-is, plus-is, abs-le}
 use Rattle.whole.proofs.Casts.{abs-fits}
 
 pub same-int : (z y : ℤ) (v w : Whole) → Is z v → Is y w → Same v w → z ≡ y
@@ -28,10 +28,6 @@ by-is (negsuc a) n v h = neg-is (pos (suc a * n)) (n * v .1, n * v .0) (omega (a
 -- z * n + m
 pub at-is : (z : ℤ) (n m : ℕ) (v : Whole) → Is z v → Is (z *ℤ pos n +ℤ pos m) (n ⊙ v ⊕ (m, 0))
 at-is z n m v h = plus-is (z *ℤ pos n) (pos m) (n ⊙ v) (m, 0) (by-is z n v h) (omega arith)
-
-pub pair-abs : (z : ℤ) → (pairOf z .0 ≤ natAbs z) × (pairOf z .1 ≤ natAbs z)
-pair-abs (pos n) = omega arith
-pair-abs (negsuc n) = omega arith
 
 -- one less, in the machine: what it asks, and what it gives
 pub lowered : (z : ℤ) → natAbs z ≤ 4503599627370496 → SFits w64 (toZ w64 (ofZ w64 z) -ℤ pos 1) × (toZ w64 (ofZ w64 (toZ w64 (ofZ w64 z) -ℤ pos 1)) ≡ z -ℤ pos 1)

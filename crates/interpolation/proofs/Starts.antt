@@ -1,23 +1,22 @@
 -- Where q lies, for a t below 2 ^ 52 in size: what the casts to whole numbers ask, and how far the start can be. Assumes nothing.
-use mathlib.Core.Bool.{Bool, true, false, cond}
+use mathlib.Core.Bool.{Bool, true, false}
 use mathlib.Core.Path.{_≡_, sym, ap, _∙_, subst}
-use Prim.Native.Nat.{ℕ, zero, suc, _+_, _*_, _^_, _≤_}
+use Prim.Native.Nat.{ℕ, _+_, _*_, _^_, _≤_}
 use native.Mathlib.Omega.{arith}
-use lib.Dec.{T, lit≤}
-use lib.IntN.{ℤ, pos, negℤ, natAbs}
+use lib.Dec.{T}
+use lib.IntN.{ℤ, pos, natAbs}
 use lib.Ieee.{Float, fin, binary64, low, fits, lt, le, toSigned, toUnsigned}
 use mir.Syntax.{w64}
 use mir.Val.{toZ, ofZ}
 use mir.ValLaws.{toZ-ofZ}
 use Rattle.exact.specs.Doubles.{count, _*f_}
-use Rattle.exact.specs.Whole.{Whole, signed, _⊙_, Same, AtMost, Below}
+use Rattle.exact.specs.Whole.{Whole, _⊙_, Same, AtMost, Below}
 use Rattle.exact.specs.Exact.{exact, Number}
 use Rattle.exact.specs.Integers.{pairOf}
 use Rattle.whole.specs.Rounded.{floorOf, splitOf}
 use Rattle.whole.specs.declared.Parts.{Parts}
-use Rattle.whole.proofs.Casts.{abs-fits, counted-signed}
-use Rattle.whole.proofs.Counts.{floor-counted}
-use Rattle.whole.proofs.Small.{small-number, floor-cast}
+use Rattle.whole.proofs.Casts.{abs-fits}
+use Rattle.whole.proofs.Small.{small-number, floor-cast, floor-value}
 use Rattle.whole.proofs.Splits.{split-frac}
 use Rattle.interpolation.specs.Grid.{inRange}
 use Rattle.interpolation.specs.Steps.{innerOf, wholeBy, beginOf, Ready}
@@ -25,12 +24,6 @@ use Rattle.interpolation.specs.declared.Inner.{Inner}
 use Rattle.interpolation.specs.declared.Start.{Start}
 use Rattle.interpolation.proofs.Range.{in-range}
 use Rattle.interpolation.proofs.Product.{UpTo, WholeUpTo, product-up-to, floor-whole, round-whole-up-to, whole-cast, whole-value}
-
--- n ones of U units each, with a sign
-ones-value : (U : ℕ) (s : Bool) (n : ℕ) → Same (signed s (n * U)) (U ⊙ pairOf (cond s (negℤ (pos n)) (pos n)))
-ones-value U false n = omega arith
-ones-value U true zero = omega arith
-ones-value U true (suc n) = omega arith
 
 abbrev inner : ℤ → Float → Inner
 inner i p = record { index = i; product = p }
@@ -50,9 +43,7 @@ module _ (t : Float) (factor : ℕ) (f : T (fits binary64 t)) (h : inRange 1 t f
 
   -- nothing is cut: the index is the value of floor(t)
   pub index-value : Same (exact binary64 (splitOf t .floor)) (2 ^ low binary64 ⊙ pairOf (innerOf t factor .index))
-  index-value =
-      let c = floor-counted 52 t (number .0) (number .1) in
-      rw (c .value, counted-signed 52 (floorOf t) c (lit≤ tt) .2) (ones-value (2 ^ low binary64) (c .sign) (c .ones))
+  index-value = floor-value t f (in-range 1 t factor h .0)
 
   -- the inner product lies from 0 to the factor
   pub inner-up-to : Number binary64 (innerOf t factor .product) × UpTo (2 ^ low binary64) factor (exact binary64 (innerOf t factor .product))

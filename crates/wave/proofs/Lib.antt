@@ -3,3 +3,4 @@ pub mod Places
 pub mod Quarters
 pub mod Lines
 pub mod Carried
+pub mod Between

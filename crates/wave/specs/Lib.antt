@@ -2,3 +2,4 @@
 pub mod Carried
 pub mod Cosine
 pub mod Turns
+pub mod Between

@@ -1,15 +1,16 @@
 -- What it says of a double to be below 2 ^ 52 in size, and its floor as a whole number. Assumes nothing.
 use mathlib.Core.Bool.{Bool, true, false, cond}
 use mathlib.Core.Path.{_≡_, refl, sym, subst}
-use Prim.Native.Nat.{ℕ, zero, suc, _+_, _^_, _≤_}
+use Prim.Native.Nat.{ℕ, zero, suc, _+_, _*_, _^_, _≤_}
 use native.Mathlib.Omega.{arith}
 use lib.Dec.{T, lit≤}
 use lib.IntN.{ℤ, pos, negℤ, natAbs}
 use lib.Ieee.{Float, nan, inf, fin, binary64, low, fits, lt, le, neg, ofBits, toSigned}
 use lib.Ieee.Fits.{and-i, and-l, and-r}
 use lib.Ieee.Scale.{finite}
-use Rattle.exact.specs.Whole.{Whole, Less, Below}
+use Rattle.exact.specs.Whole.{Whole, signed, _⊙_, Same, Less, Below}
 use Rattle.exact.specs.Exact.{exact, Number}
+use Rattle.exact.specs.Integers.{pairOf}
 use Rattle.exact.proofs.Order.{lt-exact}
 use Rattle.whole.specs.Rounded.{floorOf}
 use Rattle.whole.specs.Small.{limitF, small}
@@ -73,3 +74,16 @@ floor-cast t f h =
     let c = floor-counted 52 t (n .0) (n .1) in
     let s = counted-signed 52 (floorOf t) c (lit≤ tt) in
     (s .0, s .1, rw (s .2) (signed-abs (c .sign) (c .ones) 4503599627370496 (c .atMost)))
+
+-- n ones of U units each, with a sign
+ones-value : (U : ℕ) (s : Bool) (n : ℕ) → Same (signed s (n * U)) (U ⊙ pairOf (cond s (negℤ (pos n)) (pos n)))
+ones-value U false n = omega arith
+ones-value U true zero = omega arith
+ones-value U true (suc n) = omega arith
+
+-- nothing is cut: the whole number is the value of floor(t)
+pub floor-value : (t : Float) → T (fits binary64 t) → small t ≡ true → Same (exact binary64 (floorOf t)) (2 ^ low binary64 ⊙ pairOf (toSigned 63 (floorOf t)))
+floor-value t f h =
+    let n = small-number t f h in
+    let c = floor-counted 52 t (n .0) (n .1) in
+    rw (c .value, counted-signed 52 (floorOf t) c (lit≤ tt) .2) (ones-value (2 ^ low binary64) (c .sign) (c .ones))
