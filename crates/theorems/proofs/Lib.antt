@@ -17,3 +17,5 @@ pub mod Lasting
 pub mod Steps
 pub mod Drift
 pub mod Kept
+pub mod Waves
+pub mod Tables

@@ -27,6 +27,9 @@ use Rattle.process.specs.declared.Sizes.{Sizes}
 use Rattle.process.specs.declared.BlockOutcome.{BlockOutcome}
 use Rattle.process.specs.Block.{Block, Reset, blockLeft, resetLeft}
 use Rattle.process.proofs.Settled.{block-settled, reset-settled}
+use Rattle.window_points.specs.declared.Built.{Built}
+use Rattle.window_points.specs.Filled.{Filled, builtLeft}
+use Rattle.window_points.proofs.Settled.{built-settled}
 
 -- what is said settles the outcome
 abbrev pub Settles : {A B : Type 0} → (A → B) → Type 0
@@ -40,7 +43,7 @@ one-outcome said settles defined a b p q = settles a b (p ∙ sym q)
 pub plain : {A : Type 0} (defined a b : A) → a ≡ defined → b ≡ defined → a ≡ b
 plain = one-outcome (λ a. a) (λ a b e. e)
 
--- kernels, blends, the cutoff, the ratio asked for
+-- kernels, blends, the cutoff, the cosine and the sine, the ratio asked for
 pub answers : (defined : Said Float) (a b : Answer) → saidAnswer a ≡ defined → saidAnswer b ≡ defined → a ≡ b
 answers = one-outcome saidAnswer answer-settled
 
@@ -77,3 +80,7 @@ blocks defined o p output output′ work work′ a b = block-settled o p output 
 -- reset: the outcome and the working area
 pub resets : (defined : Reset) (o p : Outcome) (work work′ : List Float) → resetLeft o work ≡ defined → resetLeft p work′ ≡ defined → (o ≡ p) × (work ≡ work′)
 resets defined o p work work′ a b = reset-settled o p work work′ (a ∙ sym b)
+
+-- a window or a table in a lent area: the answer and the area
+pub fills : (defined : Filled) (o p : Built) (area area′ : List Float) → builtLeft o area ≡ defined → builtLeft p area′ ≡ defined → (o ≡ p) × (area ≡ area′)
+fills defined o p area area′ a b = built-settled o p area area′ (a ∙ sym b)

@@ -1,12 +1,14 @@
 -- An area that is filled from the front: what is written so far, and the rest as it was. For this crate and `sincs`. Assumes nothing.
+use mathlib.Core.Bool.{Bool, true, false, not}
 use mathlib.Core.List.{List, [], _∷_, _++_, append-assoc, append-nil}
 use mathlib.Core.Path.{_≡_, refl, sym, ap, _∙_}
 use Prim.Native.Nat.{ℕ, zero, suc, _+_, _≤_, _<_}
 use native.Mathlib.Numerals.{add-one}
 use native.Mathlib.Omega.{arith}
+use lib.Dec.{T, ltb, ltb→lt, nltb→le}
 use lib.Ieee.{Float}
-use lib.ListN.{length, drop, getD, set, length-append, length-drop, drop-of-length-le}
-use lib.Seq.{drop-cons, set-at}
+use lib.ListN.{length, drop, getD, set, length-append, length-drop, drop-of-length-le, List·getD-append}
+use lib.Seq.{drop-cons, set-at, getD-append-seam}
 use Rattle.window_points.specs.Filled.{listed}
 
 pub listed-long : (f : ℕ → Float) (n : ℕ) → length (listed f n) ≡ n
@@ -45,3 +47,15 @@ module _ (f : ℕ → Float) (old : List Float) where
   filling-done now i p h =
       let e : i ≡ length old = omega (arith, p .inside) in
       p .is ∙ ap (λ (l : List Float). listed f i ++ l) (drop-of-length-le old h) ∙ append-nil (listed f i) ∙ ap (listed f) e
+
+-- the value at a place
+pub listed-at : (f : ℕ → Float) (n k : ℕ) (d : Float) → k < n → getD (listed f n) k d ≡ f k
+unfolding listed
+listed-at f zero k d h = absurd (omega arith)
+listed-at f (suc n) k d h = go (listed-at f n k d) (ltb k n) (ltb→lt k n) (nltb→le k n)
+  where
+    go : (k < n → getD (listed f n) k d ≡ f k) → (b : Bool) → (T b → k < n) → (T (not b) → n ≤ k) → getD (listed f n ++ (f n ∷ [])) k d ≡ f k
+    go at true u v = List·getD-append (listed f n) (f n ∷ []) d k (rw (listed-long f n) (u tt)) ∙ at (u tt)
+    go at false u v =
+        let e : n ≡ k = omega (arith, v tt) in
+        ap (λ (j : ℕ). getD (listed f n ++ (f n ∷ [])) j d) (sym (listed-long f n ∙ e)) ∙ getD-append-seam (listed f n) (f n) [] d ∙ ap f e

@@ -3,3 +3,4 @@ pub mod Fills
 pub mod Ends
 pub mod Points
 pub mod Constants
+pub mod Settled
