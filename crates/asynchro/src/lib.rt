@@ -119,16 +119,16 @@ pub fn new_poly(
     if !above_zero(r) {
         return Made::Refused(Refusal::InvalidRatio(r));
     }
-    if !state::at_least_one(m) {
+    if !bounds::at_least_one(m) {
         return Made::Refused(Refusal::InvalidRelativeRatio(m));
     }
     if chunk < 1 {
         return Made::Refused(Refusal::InvalidChunkSize);
     }
-    if !state::is_ratio(r) {
+    if !bounds::is_ratio(r) {
         return Made::Refused(Refusal::RatioBeyondPort(r));
     }
-    if !state::is_channels(channels) {
+    if !bounds::is_channels(channels) {
         return Made::Refused(Refusal::Channels);
     }
     first_lengths(fresh_state(r, m, degree, chunk, channels, fixed))
@@ -151,7 +151,7 @@ fn apply_ratio(s: State, accepted: bool, r: f64, ramp: bool) -> Made
     if !accepted {
         return Made::Refused(Refusal::RatioOutOfBounds(r, s.original, s.m));
     }
-    if !state::is_ratio(r) {
+    if !bounds::is_ratio(r) {
         return Made::Refused(Refusal::RatioBeyondPort(r));
     }
     let step = state::step_of(r);

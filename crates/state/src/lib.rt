@@ -4,8 +4,6 @@ use error::Refusal;
 use sizes::FixedAsync;
 use sizes::Size;
 ghost use mathlib.Core.Path.{_≡_};
-ghost use Rattle.exact.specs.Doubles.{atLeastOne};
-ghost use Rattle.sizes.specs.Bounds.{isRatio, isChannels, isChunk, isIndex};
 ghost use Rattle.state.specs.Record.{
   stepOf,
   stepNow,
@@ -113,47 +111,22 @@ pub fn max_output_of(s: State) -> Size
     sizes::calculate_max_output_size(fixed, s.chunk0, s.original, s.m)
 }
 
-pub fn is_ratio(r: f64) -> bool
-    ensures { λ b. ⌜ b ≡ isRatio r ⌝ }
-{
-    (r >= 0.00390625) & (r <= 256.0)
-}
-
-// Finite and 1 or more; false for a NaN.
-pub fn at_least_one(x: f64) -> bool
-    ensures { λ b. ⌜ b ≡ atLeastOne x ⌝ }
-{
-    (x >= 1.0) & (x < 1.0 / 0.0)
-}
-
-pub fn is_channels(n: usize) -> bool
-    ensures { λ b. ⌜ b ≡ isChannels n ⌝ }
-{
-    (1 <= n) & (n <= 16)
-}
-
-pub fn is_chunk(n: usize) -> bool
-    ensures { λ b. ⌜ b ≡ isChunk n ⌝ }
-{
-    (1 <= n) & (n <= 65536)
-}
-
-pub fn is_index(i: f64) -> bool
-    ensures { λ b. ⌜ b ≡ isIndex i ⌝ }
-{
-    (i > -131072.0) & (i < 131072.0)
-}
-
 pub fn counts_hold(s: State) -> bool
     ensures { λ b. ⌜ b ≡ countsHold s ⌝ }
 {
-    is_channels(s.channels) & is_chunk(s.chunk) & is_chunk(s.chunk0) & (s.chunk <= s.chunk0)
+    bounds::is_channels(s.channels)
+        & bounds::is_chunk(s.chunk)
+        & bounds::is_chunk(s.chunk0)
+        & (s.chunk <= s.chunk0)
 }
 
 pub fn ratios_hold(s: State) -> bool
     ensures { λ b. ⌜ b ≡ ratiosHold s ⌝ }
 {
-    is_ratio(s.original) & is_ratio(s.current) & is_ratio(s.target) & at_least_one(s.m)
+    bounds::is_ratio(s.original)
+        & bounds::is_ratio(s.current)
+        & bounds::is_ratio(s.target)
+        & bounds::at_least_one(s.m)
 }
 
 // x has the bits of r's step; a NaN never has.
@@ -198,7 +171,7 @@ pub fn is_state(s: State) -> bool
         & steps_hold(s)
         & maxima_hold(s)
         & sizes_hold(s)
-        & is_index(s.index)
+        & bounds::is_index(s.index)
 }
 
 // The one end of every call: sizes, refusal 6, the record put together.

@@ -8,7 +8,7 @@ use error::Refusal;
 ghost use mathlib.Core.Path.{_≡_};
 ghost use mathlib.Core.Bool.{true};
 ghost use mathlib.Core.List.{[]};
-ghost use Prim.Native.Nat.{_≤_};
+ghost use Prim.Native.Nat.{_≤_, _<_};
 ghost use lib.IntN.{pos, negℤ};
 ghost use lib.Ieee.{binary64, ofInt, toSigned};
 ghost use Rattle.error.specs.Refusals.{given, unless, saidAnswer};
@@ -41,7 +41,7 @@ fn minus(w: u32) -> f64
 // The value r steps after the start of a quarter.
 fn in_quarter(table: &[u32], quarter: usize, r: usize) -> f64
     requires { ⌜ now table ≡ wave ⌝ }
-    requires { ⌜ r ≤ 1024 ⌝ }
+    requires { ⌜ r < 1024 ⌝ }
     ensures { λ y. ⌜ y ≡ ofInt binary64 (inQuarter quarter r) ⌝ }
 {
     match quarter {

@@ -1,8 +1,8 @@
--- `state::is_index` meets its contract. Assumes nothing.
+-- `bounds::is_index` meets its contract. Assumes nothing.
 use mathlib.Core.Path.{refl}
 use lib.Ieee.{ofBits, neg}
-use Rattle.state.proofs.is_index.Statement.{statement}
-use Rattle.state.proofs.is_index.Tie as tie
+use Rattle.bounds.proofs.is_index.Statement.{statement}
+use Rattle.bounds.proofs.is_index.Tie as tie
 
 returns : tie.Need-returns
 unfolding ofBits neg
