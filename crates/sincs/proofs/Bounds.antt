@@ -45,16 +45,17 @@ product points factor h = go points factor (leb-true 2 (points * factor) (b .0))
 pub product-none : (p f : ℕ) → f ≡ 0 → false ≡ productHolds p f
 product-none p f e = rw (e, mul-zero p)
 
-pub product-large : (p f : ℕ) → 0 < f → 65536 / f < p → false ≡ productHolds p f
-product-large p f F h =
-    let l : 65536 < p * f = div-lt-iff-lt-mul {k = f} {x = 65536} {y = p} F .0 h in
-    rw (le-leb 2 (p * f) (omega arith), lt-leb (p * f) 65536 l)
+pub product-over : (m p f : ℕ) → 0 < f → m / f < p → m < p * f
+product-over m p f F h = div-lt-iff-lt-mul {k = f} {x = m} {y = p} F .0 h
 
-pub product-most : (p f : ℕ) → 0 < f → p ≤ 65536 / f → p * f ≤ 65536
-product-most p f F h = le-div-iff-mul-le {k = f} {x = p} {y = 65536} F .0 h
+pub product-under : (m p f : ℕ) → 0 < f → p ≤ m / f → p * f ≤ m
+product-under m p f F h = le-div-iff-mul-le {k = f} {x = p} {y = m} F .0 h
 
-pub product-least : (p f : ℕ) → 0 < f → p ≤ 65536 / f → leb 2 (p * f) ≡ productHolds p f
-product-least p f F h = rw (le-leb (p * f) 65536 (product-most p f F h)) (sym (and-true (leb 2 (p * f))))
+pub product-large : (p f : ℕ) → 65536 < p * f → false ≡ productHolds p f
+product-large p f l = rw (le-leb 2 (p * f) (omega arith), lt-leb (p * f) 65536 l)
+
+pub product-least : (p f : ℕ) → p * f ≤ 65536 → leb 2 (p * f) ≡ productHolds p f
+product-least p f h = rw (le-leb (p * f) 65536 h) (sym (and-true (leb 2 (p * f))))
   where
     and-true : (b : Bool) → (b && true) ≡ b
     and-true true = refl
