@@ -3,4 +3,5 @@ pub mod Places
 pub mod Quarters
 pub mod Lines
 pub mod Carried
+pub mod Sides
 pub mod Between

@@ -8,7 +8,7 @@ abbrev pub placeOf : ℤ → ℕ
 placeOf (pos n) = n % 4096
 placeOf (negsuc n) = 4095 - n % 4096
 
--- the value r steps after the start of a quarter, from 0; behind the third comes the fourth
+-- the value r steps after the start of quarter 0, 1, 2 or 3
 unfoldable pub inQuarter : ℕ → ℕ → ℤ
 inQuarter zero r = pos (entry r)
 inQuarter (suc zero) r = negℤ (pos (entry (1024 - r)))
