@@ -2,28 +2,17 @@
 use mathlib.Core.Bool.{Bool, true, false}
 use mathlib.Core.Path.{_≡_, sym, subst}
 use Prim.Native.Nat.{ℕ, _*_, _^_, _≤_, _<_}
-use native.Mathlib.Nat.{le-of-lt, lt-of-le-of-lt, lt-of-lt-of-le, le-of-mul-le-mul-right, mul-le-mul, mul-le-mul-left, mul-le-mul-right, mul-lt-mul-of-pos-right, mul-mul-mul-comm, mul-one, mul-pos, mul-zero, zero-lt-suc, zero-mul}
+use native.Mathlib.Nat.{le-of-lt, lt-of-le-of-lt, lt-of-lt-of-le, mul-le-mul, mul-le-mul-left, mul-le-mul-right, mul-lt-mul-of-pos-right, mul-mul-mul-comm, mul-one, mul-pos, mul-zero, zero-lt-suc, zero-mul}
 use native.Mathlib.Omega.{arith}
-use lib.Ieee.{Float, nan, inf, fin, Format, prec, emax, low, up, down, unlike, round, mul}
-use lib.Ieee.Fits.{down-pos}
+use lib.Ieee.{Float, nan, inf, fin, Format, prec, emax, low, unlike, round, mul}
 use lib.Pow.{pow-pos}
 use Rattle.exact.specs.Whole.{Whole, signed, _⊙_, Same, AtMost, Below}
 use Rattle.exact.specs.Exact.{mag, exact}
 use Rattle.exact.specs.Rounding.{RoundOf}
-use Rattle.exact.proofs.Exact.{mag-exact}
 use Rattle.exact.proofs.Products.{mul-is, int-exact}
-use Rattle.exact.proofs.Sizes.{Sized, round-order}
+use Rattle.exact.proofs.Sizes.{Sized, sized-units, round-order}
 
--- ---- a size in units
 module _ (f : Format) where
-  pub sized-units : (n : ℕ) (x : Float) → Sized f n x → mag f x ≤ n * 2 ^ low f
-  sized-units n nan s = absurd (s .number .0)
-  sized-units n (inf t) s = absurd (s .number .0)
-  sized-units n (fin t m e) s = le-of-mul-le-mul-right {k = down e} (back (2 ^ low f) (m * up e) (mag f (fin t m e)) n (down e) (mag-exact f (fin t m e) (s .number .1)) (s .size)) (down-pos e)
-    where
-      back : (L x g n d : ℕ) → g * d ≡ x * L → x ≤ n * d → g * d ≤ n * L * d
-      back L x g n d e h = omega (arith, mul-le-mul-right L h)
-
   -- ---- the side of a whole number
   module _ (k : ℕ) (K : k ≤ emax f) (W : 2 ^ k ≤ 2 ^ prec f) where
     beside : (z : Float) (v : Whole) (r : RoundOf f z v) → Below (2 ^ k * 2 ^ low f) v → r .1 < 2 ^ k * 2 ^ low f
@@ -93,6 +82,6 @@ module _ (f : Format) where
         let X = mag f (fin s a d) in
         let Y = mag f (fin t b e) in
         let C = mag f (fin u c g) in
-        let w = sized-units n (fin u c g) r in
+        let w = sized-units f n (fin u c g) r in
         rw (mul-is f s u a c d g (p .number .1) (r .number .1), mul-is f t u b c e g (q .number .1) (r .number .1))
-        (round-order f k K (X * C) (L * L) (Y * C) (L * L) (mul-pos P P) (mul-pos P P) (few X C m n L (sized-units m (fin s a d) p) w l P) (few Y C m n L (sized-units m (fin t b e) q) w l P) (unlike s u) (unlike t u) (in-order s t u X Y C (L * L) z h))
+        (round-order f k K (X * C) (L * L) (Y * C) (L * L) (mul-pos P P) (mul-pos P P) (few X C m n L (sized-units f m (fin s a d) p) w l P) (few Y C m n L (sized-units f m (fin t b e) q) w l P) (unlike s u) (unlike t u) (in-order s t u X Y C (L * L) z h))

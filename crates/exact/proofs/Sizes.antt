@@ -86,19 +86,21 @@ module _ (f : Format) where
       scaled L x g n d e h = omega (arith, mul-le-mul-right d h)
 
   -- and the other way
+  pub sized-units : (n : ℕ) (x : Float) → Sized f n x → mag f x ≤ n * 2 ^ low f
+  sized-units n nan s = absurd (s .number .0)
+  sized-units n (inf t) s = absurd (s .number .0)
+  sized-units n (fin t m e) s = le-of-mul-le-mul-right {k = down e} (back (2 ^ low f) (m * up e) (mag f (fin t m e)) n (down e) (mag-exact f (fin t m e) (s .number .1)) (s .size)) (down-pos e)
+    where
+      back : (L x g n d : ℕ) → g * d ≡ x * L → x ≤ n * d → g * d ≤ n * L * d
+      back L x g n d e h = omega (arith, mul-le-mul-right L h)
+
   pub sized-below : (n : ℕ) (x : Float) → Sized f n x → (k : ℕ) → n < 2 ^ k → Below (2 ^ (k + low f)) (exact f x)
   unfolding exact
   sized-below n nan s k l = absurd (s .number .0)
   sized-below n (inf t) s k l = absurd (s .number .0)
   sized-below n (fin t m e) s k l =
-      let M : mag f (fin t m e) * down e ≡ m * up e * 2 ^ low f = mag-exact f (fin t m e) (s .number .1) in
-      let u : mag f (fin t m e) ≤ n * 2 ^ low f = le-of-mul-le-mul-right {k = down e} (back (2 ^ low f) (m * up e) (mag f (fin t m e)) n (down e) M (s .size)) (down-pos e) in
-      let w : mag f (fin t m e) < 2 ^ (k + low f) = rw (pow-add 2 k (low f)) (lt-of-le-of-lt u (mul-lt-mul-of-pos-right l (pow-pos (low f)))) in
-      spread t (mag f (fin t m e)) (2 ^ (k + low f)) w
+      spread t (mag f (fin t m e)) (2 ^ (k + low f)) (rw (pow-add 2 k (low f)) (lt-of-le-of-lt (sized-units n (fin t m e) s) (mul-lt-mul-of-pos-right l (pow-pos (low f)))))
     where
-      back : (L x g n d : ℕ) → g * d ≡ x * L → x ≤ n * d → g * d ≤ n * L * d
-      back L x g n d e h = omega (arith, mul-le-mul-right L h)
-
       spread : (t : Bool) (a b : ℕ) → a < b → Below b (signed t a)
       spread false a b h = omega arith
       spread true a b h = omega arith

@@ -21,8 +21,8 @@ use Rattle.exact.specs.Rounding.{RoundOf}
 use Rattle.exact.proofs.Exact.{exact-of}
 use Rattle.exact.proofs.Products.{int-exact}
 use Rattle.exact.proofs.Sums.{near-of}
-use Rattle.exact.proofs.Sizes.{Sized, sized-of, mul-sized, whole-sized}
-use Rattle.exact.proofs.Monotone.{sized-units, below-whole, above-whole, mul-order}
+use Rattle.exact.proofs.Sizes.{Sized, sized-units, sized-of, mul-sized, whole-sized}
+use Rattle.exact.proofs.Monotone.{below-whole, above-whole, mul-order}
 use Rattle.wave.specs.Cosine.{scaleF}
 
 abbrev pub L : ℕ
