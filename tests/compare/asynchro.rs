@@ -134,4 +134,12 @@ impl Async<f64> {
             }
         }
     }
+
+    pub fn sincs(points: usize, factor: usize, cutoff: f32, window: crate::WindowFunction) -> Vec<Vec<f64>> {
+        crate::sinc::make_sincs(points, factor, cutoff, window)
+    }
+
+    pub fn window(points: usize, window: crate::WindowFunction) -> Vec<f64> {
+        crate::windows::make_window(points, window)
+    }
 }
