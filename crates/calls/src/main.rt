@@ -26,12 +26,13 @@ fn serve_all(
     input: &mut [f64],
     output: &mut [f64],
     work: &mut [f64],
+    table: &mut [f64],
 ) {
     let mut s = begin();
     let mut going = true;
     let mut turns = u64::MAX;
     while turns > 0 && going {
-        s = serve(s, buf, out, input, output, work);
+        s = serve(s, buf, out, input, output, work, table);
         going = written(out, s.end);
         turns -= 1;
     }
@@ -51,5 +52,13 @@ fn main() {
     let mut input = [0.0; 131072];
     let mut output = [0.0; 131072];
     let mut work = [0.0; 131072];
-    serve_all(&mut buf, &mut out, &mut input, &mut output, &mut work);
+    let mut table = [0.0; 65536];
+    serve_all(
+        &mut buf,
+        &mut out,
+        &mut input,
+        &mut output,
+        &mut work,
+        &mut table,
+    );
 }

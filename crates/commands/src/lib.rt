@@ -1,19 +1,26 @@
-// What each line of the call script does, over the public calls alone: the record and the working area
-// that are kept, and the answer.
+// What each line of the call script does, over the public calls alone: the record, the working area and
+// the table that are kept, and the answer.
 mod answer;
 mod leaves;
 mod record;
 mod said;
+mod shown;
+mod tables;
 
+use answer::put_answer;
 use record::Change;
 use record::Kept;
+use record::left;
+use said::Head;
 use said::Said;
-use said::Shown;
+use said::said_of;
+use script::line::Line;
 use script::line::command_in;
 use script::line::read_line;
 use script::reader::Input;
+use script::values::Values;
+use script::values::float_at;
 use script::words::Command;
-use state::State;
 
 // What is kept from line to line, and the input behind the line. The answer has `end` bytes; it has
 // none once the input is over.
@@ -25,85 +32,67 @@ pub struct Served {
 
 // Before the first line.
 pub fn begin() -> Served {
-    let kept = record::nothing();
-    let input = script::reader::start();
     Served {
-        kept,
-        input,
+        kept: record::nothing(),
+        input: script::reader::start(),
         end: 0,
     }
 }
 
-// What a command says that keeps the record and the working area.
-fn told(command: Command, state: State, values: &[u64], input: &[f64]) -> Said {
+// What a command says that takes numbers alone.
+fn told(command: Command, values: Values) -> Said {
     match command {
-        Command::Area => Said::Kept(Shown::Area),
-        Command::Q => record::questions(state),
-        Command::QSteps => record::step_questions(state),
-        Command::K => leaves::kernel(values, input),
-        Command::SLin => leaves::blend(2, values, input),
-        Command::SQuad => leaves::blend(3, values, input),
-        Command::SCubic => leaves::blend(4, values, input),
         Command::WLin => leaves::weights_lin(values),
         Command::WQuad => leaves::weights_quad(values),
         Command::WCubic => leaves::weights_cubic(values),
         Command::Near => leaves::near(values),
         Command::Cutoff => leaves::cutoff(values),
-        Command::Over => Said::Over,
-        _ => Said::Bad,
+        Command::Cosine => said_of(wave::cosine(float_at(values, 0))),
+        Command::Sine => said_of(wave::sine(float_at(values, 0))),
+        Command::Over => said::begun(Head::Over),
+        _ => said::begun(Head::Bad),
     }
 }
 
-// Runs a command that keeps the working area.
-fn run_apart(command: Command, kept: Kept, values: &[u64], input: &[f64]) -> Change {
-    let state = kept.state;
-    let len = kept.len;
+// Runs a command on the record.
+fn run_record(command: Command, kept: Kept, values: Values) -> Change {
     match command {
-        Command::Rec => record::rec(len, values),
-        Command::Steps => record::steps(state, len, values),
-        Command::Abs => record::abs(state, len, values),
-        Command::Rel => record::rel(state, len, values),
-        Command::Chunk => record::chunk(state, len, values),
-        _ => record::changed(state, len, told(command, state, values, input)),
+        Command::Rec => record::rec(kept, values),
+        Command::Steps => record::steps(kept, values),
+        Command::Abs => record::abs(kept, values),
+        Command::Rel => record::rel(kept, values),
+        Command::Chunk => record::chunk(kept, values),
+        Command::Q => left(kept, shown::questions(kept.state)),
+        Command::QSteps => left(kept, shown::step_questions(kept.state)),
+        _ => left(kept, told(command, values)),
     }
 }
 
-// Runs a command on what is kept.
+// Runs a command on what is kept, of which `work` and `table` hold the samples. The samples that it shows
+// are at the front of `output`.
 fn run(
-    command: Command,
+    line: Line,
     kept: Kept,
-    values: &[u64],
     input: &[f64],
     output: &mut [f64],
     work: &mut [f64],
+    table: &mut [f64],
 ) -> Change {
+    let values = line.values;
+    let command = command_in(line);
     match command {
         Command::New => record::new(kept, values, work),
         Command::SetArea => record::set_area(kept, values, input, work),
+        Command::Area => left(kept, record::show_area(kept, output, work)),
         Command::Reset => record::reset(kept, work),
         Command::Block => record::block(kept, values, input, output, work),
-        _ => run_apart(command, kept, values, input),
-    }
-}
-
-// Runs a command and puts its answer; `then` is the input behind the line.
-fn answered(
-    command: Command,
-    kept: Kept,
-    then: Input,
-    out: &mut [u8],
-    values: &[u64],
-    input: &[f64],
-    output: &mut [f64],
-    work: &mut [f64],
-) -> Served {
-    let change = run(command, kept, values, input, output, work);
-    let left = change.kept;
-    let end = answer::put_answer(out, change, work, output);
-    Served {
-        kept: left,
-        input: then,
-        end,
+        Command::Window => left(kept, tables::window(values, output)),
+        Command::Sincs => tables::sincs(kept, values, output, table),
+        Command::K => left(kept, leaves::kernel(values, input)),
+        Command::SLin => left(kept, leaves::blend(2, values, input)),
+        Command::SQuad => left(kept, leaves::blend(3, values, input)),
+        Command::SCubic => left(kept, leaves::blend(4, values, input)),
+        _ => run_record(command, kept, values),
     }
 }
 
@@ -115,20 +104,16 @@ pub fn serve(
     input: &mut [f64],
     output: &mut [f64],
     work: &mut [f64],
+    table: &mut [f64],
 ) -> Served {
-    let kept = before.kept;
-    let from = before.input;
-    let mut values = [0u64; 16];
-    let line = read_line(from, buf, &mut values, input, output);
+    let line = read_line(before.input, buf, input, output);
+    let change = run(line, before.kept, input, output, work, table);
+    let end = put_answer(out, change.said, output);
+    let kept = change.kept;
     let then = line.input;
-    answered(
-        command_in(line),
+    Served {
         kept,
-        then,
-        out,
-        &values,
-        input,
-        output,
-        work,
-    )
+        input: then,
+        end,
+    }
 }

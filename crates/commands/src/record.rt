@@ -1,16 +1,18 @@
-// The kept record and working area, and the commands on them.
+// What is kept, and the commands on the record and the working area.
 use crate::said::Said;
-use crate::said::Shown;
+use crate::said::area;
+use crate::said::count;
 use crate::said::number_in;
+use crate::said::ok;
+use crate::said::refused;
+use crate::shown::with_state;
 use asynchro::Done;
 use asynchro::Outcome;
 use asynchro_fast::PolynomialDegree;
-use error::Answer;
-use error::Refusal;
 use printer::samples_of;
 use process::BlockOutcome;
 use process::Ran;
-use questions::Count;
+use script::values::Values;
 use script::values::count_at;
 use script::values::degree_at;
 use script::values::flag_at;
@@ -24,10 +26,11 @@ use state::State;
 // The most samples of an area.
 const MOST: usize = 131072;
 
-// The record, and how many samples the working area has.
+// The record, and how many samples the working area and the table have.
 pub struct Kept {
     pub state: State,
     pub len: usize,
+    pub table: usize,
 }
 
 // What a command leaves, and what it says.
@@ -57,32 +60,40 @@ pub fn nothing() -> Kept {
         degree,
         fixed,
     };
-    Kept { state, len: 0 }
-}
-
-pub fn changed(state: State, len: usize, said: Said) -> Change {
-    Change {
-        kept: Kept { state, len },
-        said,
+    Kept {
+        state,
+        len: 0,
+        table: 0,
     }
 }
 
-fn said_done(answer: Done) -> Said {
+pub fn left(kept: Kept, said: Said) -> Change {
+    Change { kept, said }
+}
+
+// Another record, and what is said.
+fn changed(kept: Kept, state: State, said: Said) -> Change {
+    let mut then = kept;
+    then.state = state;
+    left(then, said)
+}
+
+fn said_done(outcome: Outcome) -> Said {
+    let answer = outcome.answer;
     match answer {
-        Done::Accepted => Said::Kept(Shown::State),
-        Done::Refused(r) => Said::Refused(r),
+        Done::Accepted => with_state(ok(), outcome.state),
+        Done::Refused(r) => refused(r),
     }
 }
 
 // What a setting or a reset leaves: on a refusal the outcome's record is the one that was given.
-fn change_of(outcome: Outcome, len: usize) -> Change {
-    let state = outcome.state;
-    let answer = outcome.answer;
-    changed(state, len, said_done(answer))
+fn change_of(kept: Kept, outcome: Outcome) -> Change {
+    changed(kept, outcome.state, said_done(outcome))
 }
 
-// The samples of a working area: channels * (most + 2L), and none where that is too many.
-fn area_length(channels: usize, most: usize, l: usize) -> usize {
+// The samples of a working area: channels * (most + 2L), and none where that is too many. Those of a
+// table are its rows' points, with no L.
+pub fn area_length(channels: usize, most: usize, l: usize) -> usize {
     if channels > MOST {
         return 0;
     }
@@ -108,7 +119,7 @@ fn zeroed(s: State, work: &mut [f64]) -> usize {
     n
 }
 
-fn made(values: &[u64]) -> Made {
+fn made(values: Values) -> Made {
     asynchro::new_poly(
         float_at(values, 0),
         float_at(values, 1),
@@ -120,27 +131,21 @@ fn made(values: &[u64]) -> Made {
 }
 
 // A new record and its area.
-fn begun(state: State, work: &mut [f64]) -> Change {
-    let len = zeroed(state, work);
-    changed(state, len, Said::Kept(Shown::State))
+fn begun(kept: Kept, state: State, work: &mut [f64]) -> Change {
+    let mut then = kept;
+    then.len = zeroed(state, work);
+    changed(then, state, with_state(ok(), state))
 }
 
-fn refused(kept: Kept, r: Refusal) -> Change {
-    Change {
-        kept,
-        said: Said::Refused(r),
-    }
-}
-
-pub fn new(kept: Kept, values: &[u64], work: &mut [f64]) -> Change {
+pub fn new(kept: Kept, values: Values, work: &mut [f64]) -> Change {
     match made(values) {
-        Made::Refused(r) => refused(kept, r),
-        Made::Ready(state) => begun(state, work),
+        Made::Refused(r) => left(kept, refused(r)),
+        Made::Ready(state) => begun(kept, state, work),
     }
 }
 
 // Any record, unchecked. Its steps are those of its ratios.
-pub fn rec(len: usize, values: &[u64]) -> Change {
+pub fn rec(kept: Kept, values: Values) -> Change {
     let degree = degree_at(values, 0);
     let fixed = side_at(values, 1);
     let current = float_at(values, 6);
@@ -162,97 +167,97 @@ pub fn rec(len: usize, values: &[u64]) -> Change {
         degree,
         fixed,
     };
-    changed(state, len, Said::Kept(Shown::Nothing))
+    changed(kept, state, ok())
 }
 
 // Any two steps, unchecked.
-pub fn steps(state: State, len: usize, values: &[u64]) -> Change {
-    let mut put = state;
+pub fn steps(kept: Kept, values: Values) -> Change {
+    let mut put = kept.state;
     put.now = float_at(values, 0);
     put.then = float_at(values, 1);
-    changed(put, len, Said::Kept(Shown::Nothing))
+    changed(kept, put, ok())
 }
 
-// The first n samples of the input become the working area; how many there are.
-fn copied(input: &[f64], n: usize, work: &mut [f64]) -> usize {
-    let most = samples_of(input, n);
-    let len = samples_of(work, most);
-    channel::load(work, 0, &input[..most], len, len);
+// The first n samples of one area to another; how many there are.
+pub fn copied(from: &[f64], n: usize, to: &mut [f64]) -> usize {
+    let most = samples_of(from, n);
+    let len = samples_of(to, most);
+    channel::load(to, 0, &from[..most], len, len);
     len
 }
 
-pub fn set_area(kept: Kept, values: &[u64], input: &[f64], work: &mut [f64]) -> Change {
-    let state = kept.state;
-    let len = copied(input, count_at(values, 0), work);
-    changed(state, len, Said::Kept(Shown::Nothing))
+// The working area, as it is shown.
+pub fn show_area(kept: Kept, output: &mut [f64], work: &[f64]) -> Said {
+    area(ok(), copied(work, kept.len, output))
 }
 
-pub fn abs(state: State, len: usize, values: &[u64]) -> Change {
-    let outcome = asynchro::set_resample_ratio(state, float_at(values, 0), flag_at(values, 1));
-    change_of(outcome, len)
+pub fn set_area(kept: Kept, values: Values, input: &[f64], work: &mut [f64]) -> Change {
+    let mut then = kept;
+    then.len = copied(input, count_at(values, 0), work);
+    left(then, ok())
 }
 
-pub fn rel(state: State, len: usize, values: &[u64]) -> Change {
+pub fn abs(kept: Kept, values: Values) -> Change {
     let r = float_at(values, 0);
-    let outcome = asynchro::set_resample_ratio_relative(state, r, flag_at(values, 1));
-    change_of(outcome, len)
+    change_of(
+        kept,
+        asynchro::set_resample_ratio(kept.state, r, flag_at(values, 1)),
+    )
 }
 
-pub fn chunk(state: State, len: usize, values: &[u64]) -> Change {
-    change_of(asynchro::set_chunk_size(state, count_at(values, 0)), len)
+pub fn rel(kept: Kept, values: Values) -> Change {
+    let r = float_at(values, 0);
+    change_of(
+        kept,
+        asynchro::set_resample_ratio_relative(kept.state, r, flag_at(values, 1)),
+    )
+}
+
+pub fn chunk(kept: Kept, values: Values) -> Change {
+    change_of(
+        kept,
+        asynchro::set_chunk_size(kept.state, count_at(values, 0)),
+    )
 }
 
 pub fn reset(kept: Kept, work: &mut [f64]) -> Change {
-    let state = kept.state;
     let n = samples_of(work, kept.len);
-    change_of(process::reset(state, &mut work[..n]), n)
+    change_of(kept, process::reset(kept.state, &mut work[..n]))
 }
 
-fn said_ran(answer: Ran, len: usize) -> Said {
+// The sizes used, the output area whole, and the record.
+fn said_ran(outcome: BlockOutcome, output: usize) -> Said {
+    let answer = outcome.answer;
     match answer {
-        Ran::Used(sizes) => Said::Kept(Shown::Used(sizes, len)),
-        Ran::Refused(r) => Said::Refused(r),
+        Ran::Used(sizes) => {
+            let used = count(count(ok(), sizes.input), sizes.output);
+            with_state(area(used, output), outcome.state)
+        }
+        Ran::Refused(r) => refused(r),
     }
 }
 
-fn block_of(outcome: BlockOutcome, len: usize, output: usize) -> Change {
-    let state = outcome.state;
-    let answer = outcome.answer;
-    changed(state, len, said_ran(answer, output))
+fn block_of(kept: Kept, outcome: BlockOutcome, output: usize) -> Change {
+    changed(kept, outcome.state, said_ran(outcome, output))
 }
 
 pub fn block(
     kept: Kept,
-    values: &[u64],
+    values: Values,
     input: &[f64],
     output: &mut [f64],
     work: &mut [f64],
 ) -> Change {
-    let state = kept.state;
     let a = samples_of(input, count_at(values, 2));
     let b = samples_of(output, count_at(values, 3));
     let n = samples_of(work, kept.len);
     let outcome = process::process_into_buffer(
-        state,
+        kept.state,
         count_at(values, 0),
         number_at(values, 1),
         &input[..a],
         &mut output[..b],
         &mut work[..n],
     );
-    block_of(outcome, n, b)
-}
-
-pub fn questions(state: State) -> Said {
-    match questions::input_frames_next(state) {
-        Count::Number(_) => Said::Kept(Shown::Questions),
-        Count::Refused(r) => Said::Refused(r),
-    }
-}
-
-pub fn step_questions(state: State) -> Said {
-    match questions::input_step_now(state) {
-        Answer::Value(_) => Said::Kept(Shown::Steps),
-        Answer::Refused(r) => Said::Refused(r),
-    }
+    block_of(kept, outcome, b)
 }

@@ -48,20 +48,6 @@ fn checked(s: Served, tally: Tally, buf: &mut [u8], out: &[u8]) -> Replayed {
     }
 }
 
-fn turn(
-    r: Replayed,
-    buf: &mut [u8],
-    out: &mut [u8],
-    input: &mut [f64],
-    output: &mut [f64],
-    work: &mut [f64],
-) -> Replayed {
-    let before = r.served;
-    let tally = r.tally;
-    let served = serve(before, buf, out, input, output, work);
-    checked(served, tally, buf, out)
-}
-
 // Nothing says that the list ends, so the turns are counted down from a number that no run uses up.
 fn replay(
     buf: &mut [u8],
@@ -69,18 +55,18 @@ fn replay(
     input: &mut [f64],
     output: &mut [f64],
     work: &mut [f64],
+    table: &mut [f64],
 ) -> Tally {
-    let served = begin();
-    let tally = none_yet();
     let mut r = Replayed {
-        served,
-        tally,
+        served: begin(),
+        tally: none_yet(),
         going: true,
     };
     let mut going = true;
     let mut turns = u64::MAX;
     while turns > 0 && going {
-        r = turn(r, buf, out, input, output, work);
+        let served = serve(r.served, buf, out, input, output, work, table);
+        r = checked(served, r.tally, buf, out);
         going = r.going;
         turns -= 1;
     }
@@ -94,5 +80,13 @@ fn main() {
     let mut input = [0.0; 131072];
     let mut output = [0.0; 131072];
     let mut work = [0.0; 131072];
-    print(replay(&mut buf, &mut out, &mut input, &mut output, &mut work));
+    let mut table = [0.0; 65536];
+    print(replay(
+        &mut buf,
+        &mut out,
+        &mut input,
+        &mut output,
+        &mut work,
+        &mut table,
+    ));
 }

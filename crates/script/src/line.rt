@@ -2,6 +2,7 @@
 use crate::reader::Input;
 use crate::reader::Word;
 use crate::reader::read_word;
+use crate::values::Values;
 use crate::words::Command;
 use crate::words::command_of;
 use crate::words::kinds_of;
@@ -9,69 +10,46 @@ use crate::words::value_of;
 use text::Parsed;
 
 // A line that is being read: the name of its command, the kinds of the words that are still to come,
-// and `count` words after the command, all of them right where `good` is true. `more` says that another
-// word follows, and `over` that the input had no line any more.
+// and the numbers of the `count` words after the command, all of them right where `good` is true. `more`
+// says that another word follows, and `over` that the input had no line any more.
 pub struct Line {
     pub input: Input,
     pub name: u64,
     pub kinds: u64,
     pub count: usize,
+    pub values: Values,
     pub good: bool,
     pub more: bool,
     pub over: bool,
 }
 
-// No command takes as many words as this.
-const MOST: usize = 16;
-
-fn one_more(count: usize) -> usize {
-    if count < MOST { count + 1 } else { count }
-}
-
-// Keeps a word's number, and says whether it has one.
-fn keep(values: &mut [u64], k: usize, number: Parsed) -> bool {
-    match number {
-        Parsed::Bad => false,
-        Parsed::Number(n) => {
-            if k < values.len() {
-                values[k] = n;
-                return true;
-            }
-            false
+// The line with one word more. No command takes as many as there are places.
+fn with(line: Line, word: Word) -> Line {
+    let input = word.input;
+    let k = line.count;
+    let number = value_of(line.kinds % 16, word);
+    let mut then = line;
+    then.input = input;
+    then.kinds = line.kinds / 16;
+    then.more = input.byte == 32;
+    then.good = false;
+    if let Parsed::Number(n) = number {
+        if k < 16 {
+            then.values[k] = n;
+            then.count = k + 1;
+            then.good = line.good;
         }
     }
-}
-
-// The line with one word more.
-fn with(line: Line, values: &mut [u64], word: Word) -> Line {
-    let count = line.count;
-    let kinds = line.kinds;
-    let kept = keep(values, count, value_of(kinds % 16, word));
-    let input = word.input;
-    Line {
-        input,
-        name: line.name,
-        kinds: kinds / 16,
-        count: one_more(count),
-        good: line.good & kept,
-        more: input.byte == 32,
-        over: line.over,
-    }
+    then
 }
 
 // One word more; the samples of a block's output go to an area of their own.
-fn read_next(
-    line: Line,
-    buf: &mut [u8],
-    values: &mut [u64],
-    input: &mut [f64],
-    output: &mut [f64],
-) -> Line {
+fn read_next(line: Line, buf: &mut [u8], input: &mut [f64], output: &mut [f64]) -> Line {
     let from = line.input;
     if line.kinds % 16 == 9 {
-        return with(line, values, read_word(buf, output, from));
+        return with(line, read_word(buf, output, from));
     }
-    with(line, values, read_word(buf, input, from))
+    with(line, read_word(buf, input, from))
 }
 
 // The line after its first word. It is none where that is empty and nothing can follow.
@@ -83,6 +61,7 @@ fn begun(word: Word) -> Line {
         name,
         kinds: kinds_of(name),
         count: 0,
+        values: [0; 16],
         good: true,
         more: input.byte == 32,
         over: (name == 1) & !input.open,
@@ -90,18 +69,12 @@ fn begun(word: Word) -> Line {
 }
 
 // The next line, read to its end: a last line without a newline is one too.
-pub fn read_line(
-    before: Input,
-    buf: &mut [u8],
-    values: &mut [u64],
-    input: &mut [f64],
-    output: &mut [f64],
-) -> Line {
+pub fn read_line(before: Input, buf: &mut [u8], input: &mut [f64], output: &mut [f64]) -> Line {
     let mut line = begun(read_word(buf, input, before));
     let mut more = line.more;
     let mut turns = u64::MAX;
     while turns > 0 && more {
-        line = read_next(line, buf, values, input, output);
+        line = read_next(line, buf, input, output);
         more = line.more;
         turns -= 1;
     }

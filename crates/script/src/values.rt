@@ -3,23 +3,26 @@ use asynchro_fast::PolynomialDegree;
 use sizes::FixedAsync;
 use windows::WindowFunction;
 
-pub fn number_at(values: &[u64], k: usize) -> u64 {
-    if k < values.len() { values[k] } else { 0 }
+// A place for each word after the command; those behind the last hold 0.
+pub type Values = [u64; 16];
+
+pub fn number_at(values: Values, k: usize) -> u64 {
+    if k < 16 { values[k] } else { 0 }
 }
 
 fn as_count(n: u64) -> usize {
     n as usize
 }
 
-pub fn count_at(values: &[u64], k: usize) -> usize {
+pub fn count_at(values: Values, k: usize) -> usize {
     as_count(number_at(values, k))
 }
 
-pub fn float_at(values: &[u64], k: usize) -> f64 {
+pub fn float_at(values: Values, k: usize) -> f64 {
     text::of_bits(number_at(values, k))
 }
 
-pub fn flag_at(values: &[u64], k: usize) -> bool {
+pub fn flag_at(values: Values, k: usize) -> bool {
     number_at(values, k) == 1
 }
 
@@ -33,11 +36,11 @@ fn degree_of(l: u64) -> PolynomialDegree {
     }
 }
 
-pub fn degree_at(values: &[u64], k: usize) -> PolynomialDegree {
+pub fn degree_at(values: Values, k: usize) -> PolynomialDegree {
     degree_of(number_at(values, k))
 }
 
-pub fn side_at(values: &[u64], k: usize) -> FixedAsync {
+pub fn side_at(values: Values, k: usize) -> FixedAsync {
     if flag_at(values, k) {
         FixedAsync::Output
     } else {
@@ -56,6 +59,6 @@ fn window_of(n: u64) -> WindowFunction {
     }
 }
 
-pub fn window_at(values: &[u64], k: usize) -> WindowFunction {
+pub fn window_at(values: Values, k: usize) -> WindowFunction {
     window_of(number_at(values, k))
 }

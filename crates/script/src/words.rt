@@ -24,6 +24,10 @@ pub enum Command {
     WCubic,
     Near,
     Cutoff,
+    Cosine,
+    Sine,
+    Window,
+    Sincs,
     // A line that can't be read.
     Unknown,
     // There is no line any more.
@@ -54,6 +58,10 @@ pub fn command_of(name: u64) -> Command {
         0x1_776375626963 => Command::WCubic,
         0x1_6e656172 => Command::Near,
         0x1_6375746f6666 => Command::Cutoff,
+        0x1_636f73696e65 => Command::Cosine,
+        0x1_73696e65 => Command::Sine,
+        0x1_77696e646f77 => Command::Window,
+        0x1_73696e6373 => Command::Sincs,
         _ => Command::Unknown,
     }
 }
@@ -92,8 +100,14 @@ pub fn kinds_of(name: u64) -> u64 {
         0x1_776375626963 => 1,
         // near n t factor
         0x1_6e656172 => 0x216,
-        // cutoff n window
+        // cutoff n window, window n window
         0x1_6375746f6666 => 0x72,
+        0x1_77696e646f77 => 0x72,
+        // cosine k, sine k
+        0x1_636f73696e65 => 1,
+        0x1_73696e65 => 1,
+        // sincs points factor cutoff window
+        0x1_73696e6373 => 0x7122,
         _ => 0,
     }
 }

@@ -6,11 +6,11 @@ use Rattle.calls.proofs.serve_all.Statement.{statement}
 use Rattle.calls.proofs.serve_all.Tie as tie
 
 abbrev Inv-loop : tie.InvT-loop
-Inv-loop buf₀ out₀ input₀ output₀ work₀ s₀ going₀ turns₀ buf out input output work s going turns =
-    (length buf ≡ length buf₀) × (length out ≡ length out₀) × (length input ≡ length input₀) × (length output ≡ length output₀) × (length work ≡ length work₀)
+Inv-loop buf₀ out₀ input₀ output₀ work₀ table₀ s₀ going₀ turns₀ buf out input output work table s going turns =
+    (length buf ≡ length buf₀) × (length out ≡ length out₀) × (length input ≡ length input₀) × (length output ≡ length output₀) × (length work ≡ length work₀) × (length table ≡ length table₀)
 
 abbrev μ-loop : tie.MeasureT-loop
-μ-loop buf₀ out₀ input₀ output₀ work₀ s₀ going₀ turns₀ buf out input output work s going turns = turns
+μ-loop buf₀ out₀ input₀ output₀ work₀ table₀ s₀ going₀ turns₀ buf out input output work table s going turns = turns
 
 begin-requires : tie.Need-begin-requires Inv-loop μ-loop
 begin-requires c κs = search needs
@@ -48,11 +48,11 @@ same-length-4 c = search needs
 same-length-5 : tie.Need-same-length-5 Inv-loop μ-loop
 same-length-5 c = search needs
 
-returns : tie.Need-returns Inv-loop μ-loop
-returns c = search needs
-
 same-length-6 : tie.Need-same-length-6 Inv-loop μ-loop
 same-length-6 c = search needs
+
+returns : tie.Need-returns Inv-loop μ-loop
+returns c = search needs
 
 same-length-7 : tie.Need-same-length-7 Inv-loop μ-loop
 same-length-7 c = search needs
@@ -65,6 +65,12 @@ same-length-9 c = search needs
 
 same-length-10 : tie.Need-same-length-10 Inv-loop μ-loop
 same-length-10 c = search needs
+
+same-length-11 : tie.Need-same-length-11 Inv-loop μ-loop
+same-length-11 c = search needs
+
+same-length-12 : tie.Need-same-length-12 Inv-loop μ-loop
+same-length-12 c = search needs
 
 returns-2 : tie.Need-returns-2 Inv-loop μ-loop
 returns-2 c = search needs
@@ -87,10 +93,12 @@ serve-all-spec =
     same-length-3
     same-length-4
     same-length-5
-    returns
     same-length-6
+    returns
     same-length-7
     same-length-8
     same-length-9
     same-length-10
+    same-length-11
+    same-length-12
     returns-2)

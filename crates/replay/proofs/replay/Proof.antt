@@ -1,16 +1,18 @@
--- `replay::replay` is safe and ends: its turns are counted down. Assumes nothing.
+-- `replay::replay` is safe and ends: its turns are counted down. What the loop's test and invariant say lies too far back at the end of a
+-- turn for `omega` to find it, so it is handed over. Assumes nothing.
 use mathlib.Core.Path.{_≡_}
 use lib.ListN.{length}
+use native.Mathlib.Omega.{arith}
 use borrow.Author.Needs.{needs}
 use Rattle.replay.proofs.replay.Statement.{statement}
 use Rattle.replay.proofs.replay.Tie as tie
 
 abbrev Inv-loop : tie.InvT-loop
-Inv-loop buf₀ out₀ input₀ output₀ work₀ r₀ going₀ turns₀ buf out input output work r going turns =
-    (length buf ≡ length buf₀) × (length out ≡ length out₀) × (length input ≡ length input₀) × (length output ≡ length output₀) × (length work ≡ length work₀)
+Inv-loop buf₀ out₀ input₀ output₀ work₀ table₀ r₀ going₀ turns₀ buf out input output work table r going turns =
+    (length buf ≡ length buf₀) × (length out ≡ length out₀) × (length input ≡ length input₀) × (length output ≡ length output₀) × (length work ≡ length work₀) × (length table ≡ length table₀)
 
 abbrev μ-loop : tie.MeasureT-loop
-μ-loop buf₀ out₀ input₀ output₀ work₀ r₀ going₀ turns₀ buf out input output work r going turns = turns
+μ-loop buf₀ out₀ input₀ output₀ work₀ table₀ r₀ going₀ turns₀ buf out input output work table r going turns = turns
 
 begin-requires : tie.Need-begin-requires Inv-loop μ-loop
 begin-requires c κs = search needs
@@ -21,17 +23,20 @@ none-yet-requires c κs = search needs
 loop-holds : tie.Need-loop-holds Inv-loop μ-loop
 loop-holds c = search needs
 
-turn-requires : tie.Need-turn-requires Inv-loop μ-loop
-turn-requires c κs = search needs
+serve-requires : tie.Need-serve-requires Inv-loop μ-loop
+serve-requires c κs = search needs
+
+checked-requires : tie.Need-checked-requires Inv-loop μ-loop
+checked-requires c κs = search needs
 
 sub-turns : tie.Need-sub-turns Inv-loop μ-loop
-sub-turns c = search needs
+sub-turns c = omega (arith, c .before .before .before .before .before .before .before .before .before .before .before .before .before .before .before .before .before .before .before .before .before .before .before .before .before .loop-test .taken)
 
 loop-less : tie.Need-loop-less Inv-loop μ-loop
-loop-less c = search needs
+loop-less c = omega (arith, c .before .before .before .before .before .before .before .before .before .before .before .before .before .before .before .before .before .before .before .before .before .before .before .before .before .loop-test .taken)
 
 loop-again : tie.Need-loop-again Inv-loop μ-loop
-loop-again c = search needs
+loop-again c = omega (arith, c .before .before .before .before .before .before .before .before .before .before .before .before .before .before .before .before .before .before .before .before .before .before .before .before .before .before .loop .inv)
 
 same-length : tie.Need-same-length Inv-loop μ-loop
 same-length c = search needs
@@ -48,6 +53,9 @@ same-length-4 c = search needs
 same-length-5 : tie.Need-same-length-5 Inv-loop μ-loop
 same-length-5 c = search needs
 
+same-length-6 : tie.Need-same-length-6 Inv-loop μ-loop
+same-length-6 c = search needs
+
 returns : tie.Need-returns Inv-loop μ-loop
 returns c = search needs
 
@@ -60,7 +68,8 @@ replay-spec =
     begin-requires
     none-yet-requires
     loop-holds
-    turn-requires
+    serve-requires
+    checked-requires
     sub-turns
     loop-less
     loop-again
@@ -69,4 +78,5 @@ replay-spec =
     same-length-3
     same-length-4
     same-length-5
+    same-length-6
     returns)
