@@ -5,5 +5,4 @@ pub mod Pastes
 pub mod Texts
 pub mod Samples
 pub mod Decimals
-pub mod Signs
 pub mod ReadBack

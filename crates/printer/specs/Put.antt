@@ -3,7 +3,6 @@ use mathlib.Core.Bool.{cond}
 use mathlib.Core.List.{List, [], _∷_, _++_}
 use Prim.Native.Nat.{ℕ, zero, suc, _+_, _/_, _%_}
 use lib.Dec.{leb, ltb}
-use lib.IntN.{ℤ, pos, negsuc}
 use lib.ListN.{length}
 use lib.Seq.{paste}
 
@@ -23,8 +22,3 @@ decimalFrom (suc k) n = cond (ltb n 10) ((48 + n) ∷ []) (decimalFrom k (n / 10
 -- of a number below 2 ^ 64
 abbrev pub decimalText : ℕ → List ℕ
 decimalText n = decimalFrom 19 n
-
--- a `-` before those of a number below 0
-abbrev pub signedText : ℤ → List ℕ
-signedText (pos n) = decimalText n
-signedText (negsuc n) = 45 ∷ decimalText (suc n)

@@ -13,4 +13,3 @@ pub use front::bytes_of;
 pub use front::samples_of;
 pub use numbers::put_bits;
 pub use numbers::put_decimal;
-pub use numbers::put_signed;

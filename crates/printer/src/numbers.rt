@@ -1,12 +1,11 @@
 // Numbers in decimal, and floats by their bits.
 use crate::bytes::has_room;
 use crate::bytes::put_bytes;
-ghost use mathlib.Core.List.{_∷_};
 ghost use mathlib.Core.Path.{_≡_};
 ghost use lib.Ieee.{binary64, toBits};
 ghost use lib.ListN.{length};
 ghost use Rattle.text.specs.Digits.{hexDigits};
-ghost use Rattle.printer.specs.Put.{putIn, placeAfter, decimalText, signedText};
+ghost use Rattle.printer.specs.Put.{putIn, placeAfter, decimalText};
 
 // The 16 digits of a float's bits.
 pub fn put_bits(out: &mut [u8], at: usize, x: f64) -> usize
@@ -27,30 +26,4 @@ pub fn put_decimal(out: &mut [u8], at: usize, n: u64) -> usize
     let mut digits = [0u8; 20];
     let k = io::decimal(n, &mut digits);
     put_bytes(out, at, &digits[..k])
-}
-
-// A `-` and the digits of n. Only this crate calls this function.
-fn put_negative(out: &mut [u8], at: usize, n: u64) -> usize
-    ensures place { λ r. ⌜ r ≡ placeAfter (length (now (out .entry))) at (length (45 ∷ decimalText n)) ⌝ }
-    ensures put { λ _. ⌜ now (out .exit) ≡ putIn (now (out .entry)) at (45 ∷ decimalText n) ⌝ }
-{
-    let mut digits = [0u8; 20];
-    let k = io::decimal(n, &mut digits);
-    if !has_room(out, at, 1 + k) {
-        return out.len();
-    }
-    out[at] = 45;
-    put_bytes(out, at + 1, &digits[..k])
-}
-
-// A number below 0 has a `-` before the digits of its size.
-pub fn put_signed(out: &mut [u8], at: usize, z: i64) -> usize
-    ensures place { λ r. ⌜ r ≡ placeAfter (length (now (out .entry))) at (length (signedText z)) ⌝ }
-    ensures put { λ _. ⌜ now (out .exit) ≡ putIn (now (out .entry)) at (signedText z) ⌝ }
-{
-    let n = text::size_of(z);
-    if z >= 0 {
-        return put_decimal(out, at, n);
-    }
-    put_negative(out, at, n)
 }

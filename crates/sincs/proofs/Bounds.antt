@@ -51,6 +51,10 @@ product-over m p f F h = div-lt-iff-lt-mul {k = f} {x = m} {y = p} F .0 h
 pub product-under : (m p f : ℕ) → 0 < f → p ≤ m / f → p * f ≤ m
 product-under m p f F h = le-div-iff-mul-le {k = f} {x = p} {y = m} F .0 h
 
+-- at the limit itself, for crates/table
+pub product-most : (p f : ℕ) → 0 < f → p ≤ 65536 / f → p * f ≤ 65536
+product-most = product-under 65536
+
 pub product-large : (p f : ℕ) → 65536 < p * f → false ≡ productHolds p f
 product-large p f l = rw (le-leb 2 (p * f) (omega arith), lt-leb (p * f) 65536 l)
 
