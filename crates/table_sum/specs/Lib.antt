@@ -1,0 +1,2 @@
+-- The sum of a table. Definitions only.
+pub mod Sum
