@@ -31,13 +31,6 @@ fn write_file(name: &[u8], table: &[f64]) -> bool {
     failed(b"table: not all of the table was written to ", name)
 }
 
-// The line as a form, up to the digits of the sum.
-fn put_names(form: &mut [u8], window: WindowFunction) -> usize {
-    let at = put_bytes(form, 0, b"points # factor # cutoff $ window ");
-    let behind = put_name(form, at, window);
-    put_bytes(form, behind, b" entries # sum ")
-}
-
 // The digits of the sum, and the end of the line.
 fn digits_of(sum: TableSum) -> [u8; 33] {
     let mut digits = [10u8; 33];
@@ -46,30 +39,28 @@ fn digits_of(sum: TableSum) -> [u8; 33] {
     digits
 }
 
-// The line, by one write.
+// The line as a form, with places for its four numbers.
+fn put_line(form: &mut [u8], window: WindowFunction, sum: TableSum) -> usize {
+    let digits = digits_of(sum);
+    let at = put_bytes(form, 0, b"points # factor # cutoff $ window ");
+    let behind = put_name(form, at, window);
+    let end = put_bytes(form, behind, b" entries # sum ");
+    put_bytes(form, end, &digits)
+}
+
+// The line, by one write; whether it was written.
 fn write_line(w: Words, table: &[f64]) -> bool {
+    let window = w.window;
     let numbers = [
         w.points as u64,
         w.factor as u64,
         text::bits_of(w.cutoff),
         table.len() as u64,
     ];
-    let window = w.window;
-    let mut form = [0u8; 96];
-    let m = put_names(&mut form, window);
-    let j = bytes_of(&form, m);
-    let mut line = [0u8; 256];
-    let at = forms::put_form(&mut line, &form[..j], &numbers);
-    let digits = digits_of(table_sum::sum_of(table));
-    let n = put_bytes(&mut line, at, &digits);
-    let k = bytes_of(&line, n);
-    if io::write_all(libc::STDOUT_FILENO, &line[..k]) {
-        return true;
-    }
-    failed(
-        b"table: the table was written, and its line was not: ",
-        b"standard output",
-    )
+    let mut form = [0u8; 128];
+    let n = put_line(&mut form, window, table_sum::sum_of(table));
+    let k = bytes_of(&form, n);
+    forms::write_form(libc::STDOUT_FILENO, &form[..k], &numbers)
 }
 
 // Keeps the table of the words in the file that --out names, which must not be standard output too, and
@@ -90,7 +81,11 @@ pub fn keep(w: Words, table: &[f64]) -> bool
     if !write_file(&word[..n], table) {
         return false;
     }
-    write_line(w, table)
+    if !write_line(w, table) {
+        os::fail(b"table: the table was written, and its line on standard output was not");
+        return false;
+    }
+    true
 }
 
 // Writes the status and a line feed into the file that --status names, if one is named. A file that holds
