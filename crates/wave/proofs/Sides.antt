@@ -199,6 +199,10 @@ between-of lo hi z v hl hh r l h =
     through u v w h k = omega arith
 
 -- ---- times 2 ^ -30
+pub scaleF-is : scaleF ≡ fin false 1 (negsuc 29)
+unfolding ofBits
+scaleF-is = refl
+
 scale-sized : Sized binary64 1 scaleF × AtMost (0, 0) (exact binary64 scaleF)
 unfolding ofBits exact fits
 scale-sized = (record { number = (tt, tt); size = lit≤ tt }, lit≤ tt)
