@@ -6,8 +6,8 @@ use lib.Dec.{leb}
 use lib.Ieee.{Float, le}
 use Rattle.exact.specs.Doubles.{_*f_, _/f_, oneF, aboveZero, atLeastOne}
 use Rattle.error.specs.Refusals.{Said, given, refused, unless, numberOf, valuesOf}
-use Rattle.asynchro_fast.specs.declared.PolynomialDegree.{PolynomialDegree}
-use Rattle.asynchro_fast.specs.Degrees.{pointsOf}
+use Rattle.kinds.specs.declared.Kind.{Kind}
+use Rattle.kinds.specs.Kinds.{pointsOf, kindHolds}
 use Rattle.sizes.specs.declared.FixedAsync.{FixedAsync}
 use Rattle.state.specs.declared.State.{State}
 use Rattle.asynchro.specs.declared.Done.{Done}
@@ -15,7 +15,7 @@ use Rattle.asynchro.specs.declared.Done.the-variants as done
 use Rattle.asynchro.specs.declared.Outcome.{Outcome}
 use Rattle.sizes.specs.Bounds.{isRatio, isChannels}
 use Rattle.sizes.specs.Sizes.{startOf}
-use Rattle.state.specs.Record.{stepOf, maximaHold, isState, changed, updateLengths}
+use Rattle.state.specs.Record.{stepOf, maximaHold, checked, changed, updateLengths}
 
 -- What a call on a record leaves: the record, and what it says.
 pub record Result (A : Type 0) : Type 0 where
@@ -27,10 +27,10 @@ abbrev pub endOf : State → Said State → Result Unit
 endOf s (given t) = record { state = t; said = given tt }
 endOf s (refused n vs) = record { state = s; said = refused n vs }
 
--- ---- construction: 1, 2, 3, 5, 7, 6
+-- ---- construction: 1, 2, 3, 5, 7, 6; R-4: 11 first
 -- the record before its sizes are worked out
-abbrev pub freshState : Float → Float → PolynomialDegree → ℕ → ℕ → FixedAsync → State
-freshState r m degree chunk channels fixed =
+abbrev pub freshState : Float → Float → Kind → ℕ → ℕ → FixedAsync → State
+freshState r m kind chunk channels fixed =
     record {
       channels = channels;
       chunk = chunk;
@@ -38,14 +38,14 @@ freshState r m degree chunk channels fixed =
       input = 0;
       output = 0;
       fill = 0;
-      index = startOf (pointsOf degree);
+      index = startOf (pointsOf kind);
       original = r;
       current = r;
       target = r;
       now = stepOf r;
       then = stepOf r;
       m = m;
-      degree = degree;
+      kind = kind;
       fixed = fixed;
     }
 
@@ -62,17 +62,18 @@ unfoldable pub firstLengths : State → Said State
 unfolding unless updateLengths
 firstLengths s = unless (maximaHold s) 6 [] (filled (updateLengths s))
 
-unfoldable pub construct : Float → Float → PolynomialDegree → ℕ → ℕ → FixedAsync → Said State
+unfoldable pub construct : Float → Float → Kind → ℕ → ℕ → FixedAsync → Said State
 unfolding unless firstLengths
-construct r m degree chunk channels fixed =
-    unless (aboveZero r) 1 (r ∷ [])
+construct r m kind chunk channels fixed =
+    unless (kindHolds kind) 11 []
+    (unless (aboveZero r) 1 (r ∷ [])
     (unless (atLeastOne m) 2 (m ∷ [])
     (unless (leb 1 chunk) 3 []
     (unless (isRatio r) 5 (r ∷ [])
     (unless (isChannels channels) 7 []
-    (firstLengths (freshState r m degree chunk channels fixed))))))
+    (firstLengths (freshState r m kind chunk channels fixed)))))))
 
--- ---- ratio settings: 10, 4, 5, 6
+-- ---- ratio settings: (11,) 10, 4, 5, 6
 -- "Accepted under 4 if 1/m <= rel <= m"
 abbrev pub relativeHolds : Float → Float → Bool
 relativeHolds m rel = le (oneF /f m) rel && le rel m
@@ -84,7 +85,7 @@ withRatio s r ramp = changed s (s .chunk) (s .input) (s .output) (s .fill) (s .i
 -- the new ratio, which passes under 4 where `accepted` holds; "in both forms provided is the new ratio"
 abbrev pub applied : State → Bool → Float → Bool → Said State
 applied s accepted ratio ramp =
-    unless (isState s) 10 []
+    checked s
     (unless accepted 4 (ratio ∷ s .original ∷ s .m ∷ [])
     (unless (isRatio ratio) 5 (ratio ∷ [])
     (updateLengths (withRatio s ratio ramp))))
@@ -97,13 +98,13 @@ setRatio s r ramp = endOf s (applied s (relativeHolds (s .m) (r /f s .original))
 abbrev pub setRelative : State → Float → Bool → Result Unit
 setRelative s rel ramp = endOf s (applied s (aboveZero (s .original *f rel) && relativeHolds (s .m) rel) (s .original *f rel) ramp)
 
--- ---- chunk setting: 10, 3, 6
+-- ---- chunk setting: (11,) 10, 3, 6
 abbrev pub withChunk : State → ℕ → State
 withChunk s n = changed s n (s .input) (s .output) (s .fill) (s .index) (s .current) (s .target) (s .now) (s .then)
 
 -- "chunk 0; on a later setting also above the construction chunk"
 abbrev pub chunked : State → ℕ → Said State
-chunked s n = unless (isState s) 10 [] (unless (leb 1 n && leb n (s .chunk0)) 3 [] (updateLengths (withChunk s n)))
+chunked s n = checked s (unless (leb 1 n && leb n (s .chunk0)) 3 [] (updateLengths (withChunk s n)))
 
 abbrev pub setChunk : State → ℕ → Result Unit
 setChunk s n = endOf s (chunked s n)

@@ -2,10 +2,14 @@
 // changes", "Refusal numbers".
 use asynchro_fast::PolynomialDegree;
 use error::Refusal;
+use kinds::Kind;
+use sinc_parameters::SincInterpolationType;
 use sizes::FixedAsync;
 use state::Made;
 use state::State;
 ghost use mathlib.Core.Path.{_≡_};
+ghost use mathlib.Core.Bool.{true};
+ghost use Rattle.kinds.specs.Kinds.{kindHolds};
 ghost use Rattle.exact.specs.Doubles.{aboveZero};
 ghost use Rattle.state.specs.Record.{saidMade};
 ghost use Rattle.asynchro.specs.Calls.{
@@ -61,12 +65,12 @@ fn end_of(s: State, made: Made) -> Outcome
 fn fresh_state(
     r: f64,
     m: f64,
-    degree: PolynomialDegree,
+    kind: Kind,
     chunk: usize,
     channels: usize,
     fixed: FixedAsync,
 ) -> State
-    ensures { λ s. ⌜ s ≡ freshState r m degree chunk channels fixed ⌝ }
+    ensures { λ s. ⌜ s ≡ freshState r m kind chunk channels fixed ⌝ }
 {
     let step = state::step_of(r);
     State {
@@ -76,20 +80,21 @@ fn fresh_state(
         input: 0,
         output: 0,
         fill: 0,
-        index: sizes::start_index(asynchro_fast::nbr_points(degree)),
+        index: sizes::start_index(kinds::nbr_points(kind)),
         original: r,
         current: r,
         target: r,
         now: step,
         then: step,
         m,
-        degree,
+        kind,
         fixed,
     }
 }
 
 // Construction's last rungs: 6, and the fill.
 fn first_lengths(s: State) -> Made
+    requires { ⌜ kindHolds (s .kind) ≡ true ⌝ }
     ensures { λ r. ⌜ saidMade r ≡ firstLengths s ⌝ }
 {
     if !state::maxima_hold(s) {
@@ -105,17 +110,20 @@ fn first_lengths(s: State) -> Made
     }
 }
 
-// Construction: refusals 1, 2, 3, 5, 7, 6. It is lent no area.
-pub fn new_poly(
+// Construction of a record of either kind: refusals 11, 1, 2, 3, 5, 7, 6. It is lent no area.
+pub fn new_kind(
     r: f64,
     m: f64,
-    degree: PolynomialDegree,
+    kind: Kind,
     chunk: usize,
     channels: usize,
     fixed: FixedAsync,
 ) -> Made
-    ensures { λ s. ⌜ saidMade s ≡ construct r m degree chunk channels fixed ⌝ }
+    ensures { λ s. ⌜ saidMade s ≡ construct r m kind chunk channels fixed ⌝ }
 {
+    if !kinds::kind_holds(kind) {
+        return Made::Refused(Refusal::Argument);
+    }
     if !above_zero(r) {
         return Made::Refused(Refusal::InvalidRatio(r));
     }
@@ -131,7 +139,38 @@ pub fn new_poly(
     if !bounds::is_channels(channels) {
         return Made::Refused(Refusal::Channels);
     }
-    first_lengths(fresh_state(r, m, degree, chunk, channels, fixed))
+    first_lengths(fresh_state(r, m, kind, chunk, channels, fixed))
+}
+
+// A polynomial of this degree: never refused 11.
+pub fn new_poly(
+    r: f64,
+    m: f64,
+    degree: PolynomialDegree,
+    chunk: usize,
+    channels: usize,
+    fixed: FixedAsync,
+) -> Made
+    ensures { λ s. ⌜ saidMade s ≡ construct r m (Kind.Polynomial degree) chunk channels fixed ⌝ }
+{
+    new_kind(r, m, Kind::Polynomial(degree), chunk, channels, fixed)
+}
+
+// A sinc of so many points, with this factor and blend.
+pub fn new_sinc(
+    r: f64,
+    m: f64,
+    points: usize,
+    factor: usize,
+    blend: SincInterpolationType,
+    chunk: usize,
+    channels: usize,
+    fixed: FixedAsync,
+) -> Made
+    ensures { λ s. ⌜ saidMade s ≡ construct r m (Kind.Sinc points factor blend) chunk channels fixed ⌝ }
+{
+    let kind = Kind::Sinc(points, factor, blend);
+    new_kind(r, m, kind, chunk, channels, fixed)
 }
 
 // 1/m <= rel <= m; false for a NaN.
@@ -146,7 +185,7 @@ fn apply_ratio(s: State, accepted: bool, r: f64, ramp: bool) -> Made
     ensures { λ t. ⌜ saidMade t ≡ applied s accepted r ramp ⌝ }
 {
     if !state::is_state(s) {
-        return Made::Refused(Refusal::StateRecord);
+        return Made::Refused(state::fault_of(s));
     }
     if !accepted {
         return Made::Refused(Refusal::RatioOutOfBounds(r, s.original, s.m));
@@ -165,7 +204,7 @@ fn apply_ratio(s: State, accepted: bool, r: f64, ramp: bool) -> Made
     state::update_lengths(next)
 }
 
-// An absolute setting: refusals 10, 4, 5, 6.
+// An absolute setting: refusals 11, 10, 4, 5, 6.
 pub fn set_resample_ratio(s: State, r: f64, ramp: bool) -> Outcome
     ensures { λ o. ⌜ resultOf o ≡ setRatio s r ramp ⌝ }
 {
@@ -187,7 +226,7 @@ fn apply_chunk(s: State, n: usize) -> Made
     ensures { λ t. ⌜ saidMade t ≡ chunked s n ⌝ }
 {
     if !state::is_state(s) {
-        return Made::Refused(Refusal::StateRecord);
+        return Made::Refused(state::fault_of(s));
     }
     if !((1 <= n) & (n <= s.chunk0)) {
         return Made::Refused(Refusal::InvalidChunkSize);
@@ -197,7 +236,7 @@ fn apply_chunk(s: State, n: usize) -> Made
     state::update_lengths(resized)
 }
 
-// A chunk setting: refusals 10, 3, 6.
+// A chunk setting: refusals 11, 10, 3, 6.
 pub fn set_chunk_size(s: State, n: usize) -> Outcome
     ensures { λ o. ⌜ resultOf o ≡ setChunk s n ⌝ }
 {

@@ -8,7 +8,7 @@ ghost use Rattle.error.specs.Refusals.{saidAnswer};
 ghost use Rattle.asynchro_sinc.specs.Blends.{cubicOn, quadOn, sincCubic, sincQuad, blendSaid, cubicWeights, quadWeights, linWeights};
 
 // By powers of x: the cubic of the polynomial resampler goes by Horner and has other bits.
-fn cubic_on(x: f64, y0: f64, y1: f64, y2: f64, y3: f64) -> f64
+pub fn cubic_on(x: f64, y0: f64, y1: f64, y2: f64, y3: f64) -> f64
     ensures { λ r. ⌜ r ≡ cubicOn x y0 y1 y2 y3 ⌝ }
 {
     let third = 1.0 / 3.0;
@@ -22,7 +22,7 @@ fn cubic_on(x: f64, y0: f64, y1: f64, y2: f64, y3: f64) -> f64
     a0 + a1 * x + a2 * x2 + a3 * x3
 }
 
-fn quad_on(x: f64, y0: f64, y1: f64, y2: f64) -> f64
+pub fn quad_on(x: f64, y0: f64, y1: f64, y2: f64) -> f64
     ensures { λ r. ⌜ r ≡ quadOn x y0 y1 y2 ⌝ }
 {
     let a2 = y0 - 2.0 * y1 + y2;
@@ -32,7 +32,7 @@ fn quad_on(x: f64, y0: f64, y1: f64, y2: f64) -> f64
     0.5 * (a0 + a1 * x + a2 * x2)
 }
 
-fn lin_on(x: f64, y0: f64, y1: f64) -> f64
+pub fn lin_on(x: f64, y0: f64, y1: f64) -> f64
     ensures { λ r. ⌜ r ≡ lineOn x y0 y1 ⌝ }
 {
     y0 + x * (y1 - y0)

@@ -3,15 +3,14 @@ use mathlib.Core.List.{List}
 use Prim.Native.Nat.{ℕ}
 use lib.Ieee.{Float}
 use lib.ListN.{set}
-use Rattle.asynchro_fast.specs.declared.PolynomialDegree.{PolynomialDegree}
 use Rattle.area.specs.Parts.{partOf, eachPart}
 use Rattle.channel.specs.Mask.{isOn, whereOn}
-use Rattle.path.specs.declared.Place.{Place}
+use Rattle.path.specs.declared.Site.{Site}
 use Rattle.frames.specs.Run.{valueAt}
 
--- one frame, with its place p, at place k of channel c's share of the output, and of every channel's
-abbrev pub wroteIn : PolynomialDegree → ℕ → List Float → ℕ → Place → ℕ → ℕ → List Float → List Float
-wroteIn degree mask work stride p k c o = whereOn (isOn mask c) (set o k (valueAt degree (partOf stride c work) p)) o
+-- one frame, with its site, at place k of channel c's share of the output, and of every channel's
+abbrev pub wroteIn : List Float → ℕ → List Float → ℕ → Site → ℕ → ℕ → List Float → List Float
+wroteIn table mask work stride site k c o = whereOn (isOn mask c) (set o k (valueAt table (partOf stride c work) site)) o
 
-abbrev pub wroteAll : PolynomialDegree → ℕ → List Float → ℕ → Place → ℕ → ℕ → ℕ → List Float → List Float
-wroteAll degree mask work stride p k share channels = eachPart (wroteIn degree mask work stride p k) share channels
+abbrev pub wroteAll : List Float → ℕ → List Float → ℕ → Site → ℕ → ℕ → ℕ → List Float → List Float
+wroteAll table mask work stride site k share channels = eachPart (wroteIn table mask work stride site k) share channels

@@ -1,20 +1,23 @@
 // The frames of a block in all channels. Only our own crates call these.
 use asynchro_fast::PolynomialDegree;
+use kinds::Kind;
 use path::Moment;
 use path::Place;
+use path::Site;
 ghost use mathlib.Core.Path.{_≡_};
 ghost use Prim.Native.Nat.{_+_, _*_, _<_, _≤_};
 ghost use lib.ListN.{length, set};
-ghost use Rattle.asynchro_fast.specs.Degrees.{pointsOf};
+ghost use mathlib.Core.Bool.{true};
+ghost use Rattle.kinds.specs.Kinds.{pointsOf, kindHolds, tableOf};
 ghost use Rattle.channel.specs.Mask.{whereOn};
-ghost use Rattle.path.specs.Turns.{Reaches};
-ghost use Rattle.frames.specs.Run.{valueAt, ranAll};
+ghost use Rattle.path.specs.Turns.{Reaches, Lies};
+ghost use Rattle.frames.specs.Run.{kernelAt, valueAt, ranAll};
 ghost use Rattle.frames.specs.Turns.{wroteAll};
 
-// A frame's value in one channel.
-fn value(degree: PolynomialDegree, work: &[f64], p: Place) -> f64
+// A kernel's value in one channel.
+fn kernel_value(degree: PolynomialDegree, work: &[f64], p: Place) -> f64
     requires { ⌜ Reaches degree p (length (now work)) ⌝ }
-    ensures { λ r. ⌜ r ≡ valueAt degree (now (work .entry)) p ⌝ }
+    ensures { λ r. ⌜ r ≡ kernelAt degree (now (work .entry)) p ⌝ }
 {
     match p {
         Place::At(s, x) => {
@@ -25,31 +28,35 @@ fn value(degree: PolynomialDegree, work: &[f64], p: Place) -> f64
     }
 }
 
+// A frame's value in one channel.
+fn value(table: &[f64], work: &[f64], site: Site) -> f64
+    requires { ⌜ Lies site (length (now work)) (length (now table)) ⌝ }
+    ensures { λ r. ⌜ r ≡ valueAt (now (table .entry)) (now (work .entry)) site ⌝ }
+{
+    match site {
+        Site::Kernel(degree, p) => kernel_value(degree, work, p),
+        Site::Grid(l, spots) => sinc_value::spots_value(l, table, work, spots),
+    }
+}
+
 // A frame in one channel's share of the output; a switched-off channel's share stays.
-fn write_channel(
-    on: bool,
-    share: &mut [f64],
-    k: usize,
-    degree: PolynomialDegree,
-    work: &[f64],
-    p: Place,
-)
+fn write_channel(on: bool, share: &mut [f64], k: usize, table: &[f64], work: &[f64], site: Site)
     requires { ⌜ k < length (now share) ⌝ }
-    requires { ⌜ Reaches degree p (length (now work)) ⌝ }
-    ensures { λ _. ⌜ now (share .exit) ≡ whereOn on (set (now (share .entry)) k (valueAt degree (now (work .entry)) p)) (now (share .entry)) ⌝ }
+    requires { ⌜ Lies site (length (now work)) (length (now table)) ⌝ }
+    ensures { λ _. ⌜ now (share .exit) ≡ whereOn on (set (now (share .entry)) k (valueAt (now (table .entry)) (now (work .entry)) site)) (now (share .entry)) ⌝ }
 {
     if on {
-        share[k] = value(degree, work, p);
+        share[k] = value(table, work, site);
     }
 }
 
 // A frame in every switched-on channel, at place k of each share.
 fn write_frame(
-    degree: PolynomialDegree,
+    table: &[f64],
     mask: u64,
     work: &[f64],
     stride: usize,
-    p: Place,
+    site: Site,
     k: usize,
     out: &mut [f64],
     share: usize,
@@ -57,8 +64,8 @@ fn write_frame(
 )
     requires { ⌜ channels ≤ 16 ⌝ }
     requires { ⌜ (channels * stride ≡ length (now work)) × (channels * share ≡ length (now out)) ⌝ }
-    requires { ⌜ (k < share) × Reaches degree p stride ⌝ }
-    ensures { λ _. ⌜ now (out .exit) ≡ wroteAll degree mask (now (work .entry)) stride p k share channels (now (out .entry)) ⌝ }
+    requires { ⌜ (k < share) × Lies site stride (length (now table)) ⌝ }
+    ensures { λ _. ⌜ now (out .exit) ≡ wroteAll (now (table .entry)) mask (now (work .entry)) stride site k share channels (now (out .entry)) ⌝ }
 {
     for c in 0..channels {
         let a = c * share;
@@ -67,16 +74,17 @@ fn write_frame(
             channel::is_on(mask, c),
             &mut out[a..a + share],
             k,
-            degree,
+            table,
             &work[b..b + stride],
-            p,
+            site,
         );
     }
 }
 
 // The frames of all channels, from place `at` of each share on. The index path is gone once.
 pub fn run_all(
-    degree: PolynomialDegree,
+    kind: Kind,
+    table: &[f64],
     needed: usize,
     mask: u64,
     work: &[f64],
@@ -90,17 +98,26 @@ pub fn run_all(
     share: usize,
     channels: usize,
 )
+    requires { ⌜ (kindHolds kind ≡ true) × (length (now table) ≡ tableOf kind) ⌝ }
     requires { ⌜ (needed ≤ 65536) × (channels ≤ 16) ⌝ }
     requires { ⌜ (channels * stride ≡ length (now work)) × (channels * share ≡ length (now out)) ⌝ }
-    requires { ⌜ (at + n ≤ share) × (2 * pointsOf degree + needed ≤ stride) ⌝ }
-    ensures { λ _. ⌜ now (out .exit) ≡ ranAll degree needed mask (now (work .entry)) stride t d i n at share channels (now (out .entry)) ⌝ }
+    requires { ⌜ (at + n ≤ share) × (2 * pointsOf kind + needed ≤ stride) ⌝ }
+    ensures { λ _. ⌜ now (out .exit) ≡ ranAll kind (now (table .entry)) needed mask (now (work .entry)) stride t d i n at share channels (now (out .entry)) ⌝ }
 {
-    let shift = path::shift_of(degree);
-    let last = path::last_of(degree, needed);
     let mut moment = Moment { index: i, step: t };
     for f in 0..n {
         moment = path::step_index(moment, d);
-        let p = path::place_of(shift, last, moment.index);
-        write_frame(degree, mask, work, stride, p, at + f, out, share, channels);
+        let site = path::site_of(kind, needed, moment.index);
+        write_frame(
+            table,
+            mask,
+            work,
+            stride,
+            site,
+            at + f,
+            out,
+            share,
+            channels,
+        );
     }
 }

@@ -1,16 +1,14 @@
--- Document 01, "Block run", 4 and Reach: where a frame's neighbours begin, and whether they are all there. Definitions only.
+-- Document 01, "Block run", 4 and Reach: where a kernel's neighbours begin, and whether they are all there. Definitions only.
 use mathlib.Core.Bool.{Bool, true, false, _&&_}
-use Prim.Native.Nat.{ℕ, zero, suc, _+_, _-_, _*_, _/_}
+use Prim.Native.Nat.{ℕ, _+_, _-_, _*_, _/_}
 use lib.Dec.{leb}
 use lib.Ieee.{Float, nan, inf, fin, up, down}
 use Rattle.whole.specs.Rounded.{splitOf}
 use Rattle.whole.specs.declared.Parts.{Parts}
 use Rattle.asynchro_fast.specs.declared.PolynomialDegree.{PolynomialDegree}
 use Rattle.asynchro_fast.specs.Degrees.{pointsOf, beforeOf}
-use Rattle.path.specs.declared.Moment.{Moment}
 use Rattle.path.specs.declared.Place.{Place}
 use Rattle.path.specs.declared.Place.the-variants.{At, Out}
-use Rattle.path.specs.Path.{pathAt}
 
 -- a place where the test passes
 abbrev pub within : Bool → Place → Place
@@ -38,9 +36,3 @@ placeOf shift last x = placeFrom shift last (splitOf x .floor) (splitOf x .frac)
 abbrev pub isAt : Place → Bool
 isAt (At s x) = true
 isAt Out = false
-
--- each of the first n frames has its neighbours in reach; "Reach is given exactly when some frame's neighbours, masks disregarded, lie below 0 or at or past 2L+needed input"
-unfoldable pub allReach : ℕ → ℕ → Float → Float → Float → ℕ → Bool
-unfolding placeFrom pathAt
-allReach shift last t d i zero = true
-allReach shift last t d i (suc f) = allReach shift last t d i f && isAt (placeOf shift last (pathAt t d i (suc f) .index))

@@ -1,8 +1,12 @@
-// The index path of a block, where a frame's neighbours lie, and Reach. Only our own crates call these.
+// The index path of a block, where a frame's samples lie, and Reach. Only our own crates call these.
 use asynchro_fast::PolynomialDegree;
+use grid_places::Spots;
+use kinds::Kind;
 ghost use mathlib.Core.Path.{_≡_};
+ghost use mathlib.Core.Bool.{true};
 ghost use Prim.Native.Nat.{_<_, _≤_};
 ghost use lib.Dec.{leb};
+ghost use Rattle.kinds.specs.Kinds.{kindHolds};
 ghost use Rattle.path.specs.Path.{stepIndex, pathAt};
 ghost use Rattle.path.specs.Places.{
   within,
@@ -11,8 +15,8 @@ ghost use Rattle.path.specs.Places.{
   shiftOf,
   lastOf,
   isAt,
-  allReach,
 };
+ghost use Rattle.path.specs.Sites.{siteOf, reached, allReach};
 
 // Where a block is between two frames: the index, and the step that led to it.
 pub struct Moment {
@@ -20,10 +24,16 @@ pub struct Moment {
     pub step: f64,
 }
 
-// Where a frame's neighbours begin and its fraction, or that they are not all there.
+// Where a kernel's neighbours begin and its fraction, or that they are not all there.
 pub enum Place {
     At(usize, f64),
     Out,
+}
+
+// Where a frame's samples lie: the neighbours of a kernel, or the grid points of a sinc of so many points.
+pub enum Site {
+    Kernel(PolynomialDegree, Place),
+    Grid(usize, Spots),
 }
 
 // What a look along the path finds: whether every frame is in reach, and the index after the last.
@@ -108,19 +118,46 @@ pub fn last_of(degree: PolynomialDegree, needed: usize) -> usize
     asynchro_fast::nbr_points(degree) + needed
 }
 
+// The site of the index x in a block that needs so many input frames.
+pub fn site_of(kind: Kind, needed: usize, x: f64) -> Site
+    requires { ⌜ (kindHolds kind ≡ true) × (needed ≤ 65536) ⌝ }
+    ensures { λ r. ⌜ r ≡ siteOf kind needed x ⌝ }
+{
+    match kind {
+        Kind::Polynomial(degree) => {
+            let shift = shift_of(degree);
+            let last = last_of(degree, needed);
+            Site::Kernel(degree, place_of(shift, last, x))
+        }
+        Kind::Sinc(points, factor, blend) => {
+            let shift = 2 * points;
+            let last = points + needed;
+            Site::Grid(points, grid_places::spots_of(blend, factor, shift, last, x))
+        }
+    }
+}
+
+// Every sample of the site is there.
+fn is_reached(site: Site) -> bool
+    ensures { λ b. ⌜ b ≡ reached site ⌝ }
+{
+    match site {
+        Site::Kernel(_, p) => is_at(p),
+        Site::Grid(_, spots) => grid_places::all_held(spots),
+    }
+}
+
 // Reach's pass: every frame is looked at, with no early way out.
-pub fn look(degree: PolynomialDegree, needed: usize, t: f64, d: f64, i: f64, n: usize) -> Looked
-    requires { ⌜ needed ≤ 65536 ⌝ }
-    ensures reach { λ r. ⌜ r .reach ≡ allReach (shiftOf degree) (lastOf degree needed) t d i n ⌝ }
+pub fn look(kind: Kind, needed: usize, t: f64, d: f64, i: f64, n: usize) -> Looked
+    requires { ⌜ (kindHolds kind ≡ true) × (needed ≤ 65536) ⌝ }
+    ensures reach { λ r. ⌜ r .reach ≡ allReach kind needed t d i n ⌝ }
     ensures index { λ r. ⌜ r .index ≡ pathAt t d i n .index ⌝ }
 {
-    let shift = shift_of(degree);
-    let last = last_of(degree, needed);
     let mut at = Moment { index: i, step: t };
     let mut reach = true;
     for f in 0..n {
         at = step_index(at, d);
-        reach = reach & is_at(place_of(shift, last, at.index));
+        reach = reach & is_reached(site_of(kind, needed, at.index));
     }
     Looked {
         reach,

@@ -8,11 +8,12 @@ use Rattle.exact.specs.Doubles.{_-f_, _/f_, count, zeroF}
 use Rattle.error.specs.Refusals.{Said, unless}
 use Rattle.sizes.specs.Sizes.{framesOf, startOf}
 use Rattle.state.specs.declared.State.{State}
-use Rattle.state.specs.Record.{pointsIn, stepOf, stepNow, stepThen, maxInputOf, isState, changed, updateLengths}
+use Rattle.kinds.specs.Kinds.{tableOf}
+use Rattle.state.specs.Record.{pointsIn, stepOf, stepNow, stepThen, maxInputOf, checked, changed, updateLengths}
 use Rattle.channel.specs.Mask.{maskFits}
 use Rattle.path.specs.declared.Moment.{Moment}
 use Rattle.path.specs.Path.{pathAt}
-use Rattle.path.specs.Places.{shiftOf, lastOf, allReach}
+use Rattle.path.specs.Sites.{allReach}
 
 -- ---- what the block is asked with: document 01, "The caller lends .."
 -- "Frames read are the smaller of the given count and needed input."
@@ -27,14 +28,18 @@ strideOf s = framesOf (maxInputOf s) + 2 * pointsIn s
 abbrev pub workHolds : State → ℕ → Bool
 workHolds s work = eqb work (s .channels * strideOf s)
 
+-- R-4: "table of the wrong length 8": points*factor samples exactly; a polynomial record asks for none
+abbrev pub tableHolds : State → ℕ → Bool
+tableHolds s table = eqb table (tableOf (s .kind))
+
 -- "lengths are multiples of the channel count; each channel's share is at least the frames read and needed output"
 abbrev pub shareHolds : State → ℕ → ℕ → Bool
 shareHolds s area frames = eqb (area % s .channels) 0 && leb frames (area / s .channels)
 
--- refusal 8 is given unless this holds, of the frames given, the mask and the three areas' lengths
-abbrev pub shapeHolds : State → ℕ → ℕ → ℕ → ℕ → ℕ → Bool
-shapeHolds s frames mask input output work =
-    shareHolds s input (readOf s frames) && shareHolds s output (s .output) && workHolds s work && maskFits mask (s .channels)
+-- refusal 8 is given unless this holds, of the frames given, the mask and the lengths of the table and the three areas
+abbrev pub shapeHolds : State → ℕ → ℕ → ℕ → ℕ → ℕ → ℕ → Bool
+shapeHolds s frames mask table input output work =
+    shareHolds s input (readOf s frames) && shareHolds s output (s .output) && workHolds s work && tableHolds s table && maskFits mask (s .channels)
 
 -- ---- the run
 -- "t = 1/r1; d = (1/r2 - 1/r1)/out, unused when out is 0", of the stored steps
@@ -43,7 +48,7 @@ incrementOf s = cond (eqb (s .output) 0) zeroF ((stepThen s -f stepNow s) /f cou
 
 -- refusal 9 is given unless this holds
 abbrev pub reachHolds : State → Bool
-reachHolds s = allReach (shiftOf (s .degree)) (lastOf (s .degree) (s .input)) (stepNow s) (incrementOf s) (s .index) (s .output)
+reachHolds s = allReach (s .kind) (s .input) (stepNow s) (incrementOf s) (s .index) (s .output)
 
 -- the index after the last frame
 abbrev pub indexAfter : State → Float
@@ -53,20 +58,20 @@ indexAfter s = pathAt (stepNow s) (incrementOf s) (s .index) (s .output) .index
 abbrev pub afterBlock : State → State
 afterBlock s = changed s (s .chunk) (s .input) (s .output) (s .input) (indexAfter s -f count (s .input)) (s .target) (s .target) (s .then) (s .then)
 
--- the record that the block leaves: 10, 8, 9, 6
-unfoldable pub planned : State → ℕ → ℕ → ℕ → ℕ → ℕ → Said State
+-- the record that the block leaves: (11,) 10, 8, 9, 6
+unfoldable pub planned : State → ℕ → ℕ → ℕ → ℕ → ℕ → ℕ → Said State
 unfolding unless
-planned s frames mask input output work =
-    unless (isState s) 10 []
-    (unless (shapeHolds s frames mask input output work) 8 []
+planned s frames mask table input output work =
+    checked s
+    (unless (shapeHolds s frames mask table input output work) 8 []
     (unless (reachHolds s) 9 []
     (updateLengths (afterBlock s))))
 
--- ---- reset: 10, 8 for a working area of the wrong length, 6
+-- ---- reset: (11,) 10, 8 for a working area of the wrong length, 6
 -- "Reset restores ratio, chunk, index and sizes, .., and does not touch the fill." R-2: and the steps
 abbrev pub restored : State → State
 restored s = changed s (s .chunk0) (s .input) (s .output) (s .fill) (startOf (pointsIn s)) (s .original) (s .original) (stepOf (s .original)) (stepOf (s .original))
 
 unfoldable pub resetting : State → ℕ → Said State
 unfolding unless
-resetting s work = unless (isState s) 10 [] (unless (workHolds s work) 8 [] (updateLengths (restored s)))
+resetting s work = checked s (unless (workHolds s work) 8 [] (updateLengths (restored s)))

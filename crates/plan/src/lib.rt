@@ -5,11 +5,13 @@ use state::Made;
 use state::State;
 ghost use mathlib.Core.Path.{_≡_};
 ghost use mathlib.Core.Bool.{true};
+ghost use Rattle.kinds.specs.Kinds.{kindHolds};
 ghost use Rattle.state.specs.Record.{isState, saidMade};
 ghost use Rattle.plan.specs.Plan.{
   readOf,
   strideOf,
   workHolds,
+  tableHolds,
   shareHolds,
   shapeHolds,
   incrementOf,
@@ -28,8 +30,9 @@ pub fn frames_to_read(s: State, frames: usize) -> usize
     if frames <= s.input { frames } else { s.input }
 }
 
-// Samples of one channel in the working area.
+// Samples of one channel in the working area. The record's kind has passed its test.
 pub fn stride_of(s: State) -> usize
+    requires { ⌜ kindHolds (s .kind) ≡ true ⌝ }
     ensures { λ r. ⌜ r ≡ strideOf s ⌝ }
 {
     sizes::frames_of(state::max_input_of(s)) + 2 * state::points_in(s)
@@ -41,6 +44,15 @@ fn work_holds(s: State, work: usize) -> bool
     ensures { λ b. ⌜ b ≡ workHolds s work ⌝ }
 {
     work == s.channels * stride_of(s)
+}
+
+// The table is of exactly the right length.
+fn table_holds(s: State, table: usize) -> bool
+    requires { ⌜ isState s ≡ true ⌝ }
+    ensures { λ b. ⌜ b ≡ tableHolds s table ⌝ }
+{
+    let kind = s.kind;
+    table == kinds::table_length(kind)
 }
 
 // A lent area is whole shares, each of at least so many frames.
@@ -56,16 +68,18 @@ fn validate_buffers(
     s: State,
     frames: usize,
     mask: u64,
+    table: usize,
     input: usize,
     output: usize,
     work: usize,
 ) -> bool
     requires { ⌜ isState s ≡ true ⌝ }
-    ensures { λ b. ⌜ b ≡ shapeHolds s frames mask input output work ⌝ }
+    ensures { λ b. ⌜ b ≡ shapeHolds s frames mask table input output work ⌝ }
 {
     share_holds(s, input, frames_to_read(s, frames))
         & share_holds(s, output, s.output)
         & work_holds(s, work)
+        & table_holds(s, table)
         & channel::mask_fits(mask, s.channels)
 }
 
@@ -89,8 +103,8 @@ fn look(s: State) -> path::Looked
 {
     let t = state::step_now(s);
     let d = t_ratio_increment(s);
-    let degree = s.degree;
-    path::look(degree, s.input, t, d, s.index, s.output)
+    let kind = s.kind;
+    path::look(kind, s.input, t, d, s.index, s.output)
 }
 
 // The record after a block whose last index is `index`, before its sizes are worked out.
@@ -106,14 +120,22 @@ fn after_block(s: State, index: f64) -> State
     next
 }
 
-// The first pass: refusals 10, 8, 9, 6, or the record that the block leaves.
-pub fn plan(s: State, frames: usize, mask: u64, input: usize, output: usize, work: usize) -> Made
-    ensures { λ r. ⌜ saidMade r ≡ planned s frames mask input output work ⌝ }
+// The first pass: refusals 11, 10, 8, 9, 6, or the record that the block leaves.
+pub fn plan(
+    s: State,
+    frames: usize,
+    mask: u64,
+    table: usize,
+    input: usize,
+    output: usize,
+    work: usize,
+) -> Made
+    ensures { λ r. ⌜ saidMade r ≡ planned s frames mask table input output work ⌝ }
 {
     if !state::is_state(s) {
-        return Made::Refused(Refusal::StateRecord);
+        return Made::Refused(state::fault_of(s));
     }
-    if !validate_buffers(s, frames, mask, input, output, work) {
+    if !validate_buffers(s, frames, mask, table, input, output, work) {
         return Made::Refused(Refusal::BufferShape);
     }
     let seen = look(s);
@@ -138,12 +160,12 @@ fn restored_state(s: State) -> State
     next
 }
 
-// Reset's first pass: refusals 10, 8, 6, or the record that it leaves.
+// Reset's first pass: refusals 11, 10, 8, 6, or the record that it leaves.
 pub fn plan_reset(s: State, work: usize) -> Made
     ensures { λ r. ⌜ saidMade r ≡ resetting s work ⌝ }
 {
     if !state::is_state(s) {
-        return Made::Refused(Refusal::StateRecord);
+        return Made::Refused(state::fault_of(s));
     }
     if !work_holds(s, work) {
         return Made::Refused(Refusal::BufferShape);

@@ -24,10 +24,10 @@ workAfter s frames mask input at work =
     loadedAll mask (2 * pointsIn s) input (length input / s .channels) at (readOf s frames) (s .input) (strideOf s) (s .channels)
     (movedAll (s .fill) (2 * pointsIn s) (strideOf s) (s .channels) work)
 
--- the output area after the frames, from place `at` of each share, on the working area `work`
-unfoldable pub outputAfter : State → ℕ → List Float → ℕ → List Float → List Float
-outputAfter s mask work at output =
-    ranAll (s .degree) (s .input) mask work (strideOf s) (stepNow s) (incrementOf s) (s .index) (s .output) at (length output / s .channels) (s .channels) output
+-- the output area after the frames, from place `at` of each share, by the lent table, on the working area `work`
+unfoldable pub outputAfter : State → ℕ → List Float → List Float → ℕ → List Float → List Float
+outputAfter s mask table work at output =
+    ranAll (s .kind) table (s .input) mask work (strideOf s) (stepNow s) (incrementOf s) (s .index) (s .output) at (length output / s .channels) (s .channels) output
 
 -- ---- the outcome
 -- what a block or a reset leaves: the record, what it says, the output area and the working area
@@ -41,14 +41,14 @@ pub record Block (A : Type 0) : Type 0 where
 abbrev pub sizesOf : State → Sizes
 sizesOf s = record { input = s .input; output = s .output }
 
-abbrev pub blockEnd : State → ℕ → ℕ → List Float → List Float → List Float → Said State → Block Sizes
-blockEnd s frames mask input output work (given t) =
-    record { state = t; said = given (sizesOf s); output = outputAfter s mask (workAfter s frames mask input 0 work) 0 output; work = workAfter s frames mask input 0 work }
-blockEnd s frames mask input output work (refused n vs) = record { state = s; said = refused n vs; output = output; work = work }
+abbrev pub blockEnd : State → ℕ → ℕ → List Float → List Float → List Float → List Float → Said State → Block Sizes
+blockEnd s frames mask table input output work (given t) =
+    record { state = t; said = given (sizesOf s); output = outputAfter s mask table (workAfter s frames mask input 0 work) 0 output; work = workAfter s frames mask input 0 work }
+blockEnd s frames mask table input output work (refused n vs) = record { state = s; said = refused n vs; output = output; work = work }
 
-abbrev pub blockOf : State → ℕ → ℕ → List Float → List Float → List Float → Block Sizes
-blockOf s frames mask input output work =
-    blockEnd s frames mask input output work (planned s frames mask (length input) (length output) (length work))
+abbrev pub blockOf : State → ℕ → ℕ → List Float → List Float → List Float → List Float → Block Sizes
+blockOf s frames mask table input output work =
+    blockEnd s frames mask table input output work (planned s frames mask (length table) (length input) (length output) (length work))
 
 -- ---- reset
 -- what a reset leaves: the record, what it says, and the working area, "zeroes the working area"

@@ -43,6 +43,7 @@ fn write(
     s: State,
     frames: usize,
     mask: u64,
+    table: &[f64],
     input: &[f64],
     at: usize,
     output: &mut [f64],
@@ -50,10 +51,10 @@ fn write(
     work: &mut [f64],
 )
     requires { ⌜ isState s ≡ true ⌝ }
-    requires { ⌜ shapeHolds s frames mask (length (now input)) (length (now output)) (length (now work)) ≡ true ⌝ }
+    requires { ⌜ shapeHolds s frames mask (length (now table)) (length (now input)) (length (now output)) (length (now work)) ≡ true ⌝ }
     requires { ⌜ (at ≡ 0) × (to ≡ 0) ⌝ }
     ensures worked { λ _. ⌜ now (work .exit) ≡ workAfter s frames mask (now (input .entry)) at (now (work .entry)) ⌝ }
-    ensures written { λ _. ⌜ now (output .exit) ≡ outputAfter s mask (workAfter s frames mask (now (input .entry)) at (now (work .entry))) to (now (output .entry)) ⌝ }
+    ensures written { λ _. ⌜ now (output .exit) ≡ outputAfter s mask (now (table .entry)) (workAfter s frames mask (now (input .entry)) at (now (work .entry))) to (now (output .entry)) ⌝ }
 {
     let channels = s.channels;
     let stride = plan::stride_of(s);
@@ -76,9 +77,10 @@ fn write(
     );
     let t = state::step_now(s);
     let d = plan::t_ratio_increment(s);
-    let degree = s.degree;
+    let kind = s.kind;
     frames::run_all(
-        degree,
+        kind,
+        table,
         s.input,
         mask,
         work,
@@ -94,24 +96,34 @@ fn write(
     );
 }
 
-// The block run: record by value, frames given, mask, input, output and working area.
+// The block run: record by value, frames given, mask, table, input, output and working area. The table of a
+// polynomial record is empty.
 pub fn process_into_buffer(
     s: State,
     frames: usize,
     mask: u64,
+    table: &[f64],
     input: &[f64],
     output: &mut [f64],
     work: &mut [f64],
 ) -> BlockOutcome
-    ensures { λ o. ⌜ blockLeft o (now (output .exit)) (now (work .exit)) ≡ blockOf s frames mask (now (input .entry)) (now (output .entry)) (now (work .entry)) ⌝ }
+    ensures { λ o. ⌜ blockLeft o (now (output .exit)) (now (work .exit)) ≡ blockOf s frames mask (now (table .entry)) (now (input .entry)) (now (output .entry)) (now (work .entry)) ⌝ }
 {
-    match plan::plan(s, frames, mask, input.len(), output.len(), work.len()) {
+    match plan::plan(
+        s,
+        frames,
+        mask,
+        table.len(),
+        input.len(),
+        output.len(),
+        work.len(),
+    ) {
         Made::Refused(r) => BlockOutcome {
             state: s,
             answer: Ran::Refused(r),
         },
         Made::Ready(next) => {
-            write(s, frames, mask, input, 0, output, 0, work);
+            write(s, frames, mask, table, input, 0, output, 0, work);
             BlockOutcome {
                 state: next,
                 answer: Ran::Used(Sizes {

@@ -1,15 +1,14 @@
--- Document 01, "Refusal numbers": "Questions about a state: 10 only." Definitions only.
-use mathlib.Core.List.{[]}
+-- Document 01, "Refusal numbers": "Questions about a state: 10 only." R-4: 11 before it. Definitions only.
 use Prim.Native.Nat.{ℕ}
-use Rattle.error.specs.Refusals.{Said, given, refused, unless, numberOf, valuesOf}
+use Rattle.error.specs.Refusals.{Said, given, refused, numberOf, valuesOf}
 use Rattle.state.specs.declared.State.{State}
-use Rattle.state.specs.Record.{isState}
+use Rattle.state.specs.Record.{checked}
 use Rattle.questions.specs.declared.Count.{Count}
 use Rattle.questions.specs.declared.Count.the-variants as counted
 
 -- what is asked of a record that passes the StateRecord test
 abbrev pub asked : {A : Type 0} → State → A → Said A
-asked s a = unless (isState s) 10 [] (given a)
+asked s a = checked s (given a)
 
 -- an answer that is a number, in document 01's words
 abbrev pub saidCount : Count → Said ℕ

@@ -1,5 +1,5 @@
-// The questions about a ratio state: each is refused 10 for a record that no accepted call leaves, and
-// for nothing else.
+// The questions about a ratio state: each is refused 11 or 10 for a record that no accepted call leaves,
+// and for nothing else.
 use error::Answer;
 use error::Refusal;
 use state::State;
@@ -15,14 +15,14 @@ pub enum Count {
     Refused(Refusal),
 }
 
-// A question about a number: refusal 10 only.
+// A question about a number: refusals 11 and 10 only.
 fn asked_count(s: State, n: usize) -> Count
     ensures { λ r. ⌜ saidCount r ≡ asked s n ⌝ }
 {
     if state::is_state(s) {
         Count::Number(n)
     } else {
-        Count::Refused(Refusal::StateRecord)
+        Count::Refused(state::fault_of(s))
     }
 }
 
@@ -68,18 +68,18 @@ pub fn output_delay(s: State) -> Count
     if state::is_state(s) {
         Count::Number(sizes::delay_of(state::points_in(s), s.current))
     } else {
-        Count::Refused(Refusal::StateRecord)
+        Count::Refused(state::fault_of(s))
     }
 }
 
-// A question about a double: refusal 10 only.
+// A question about a double: refusals 11 and 10 only.
 fn asked_value(s: State, x: f64) -> Answer
     ensures { λ r. ⌜ saidAnswer r ≡ asked s x ⌝ }
 {
     if state::is_state(s) {
         Answer::Value(x)
     } else {
-        Answer::Refused(Refusal::StateRecord)
+        Answer::Refused(state::fault_of(s))
     }
 }
 

@@ -1,12 +1,14 @@
 -- The state record: its steps and sizes, the StateRecord test, and the one end of every call. Definitions only.
-use mathlib.Core.Bool.{Bool, not, _&&_}
+use mathlib.Core.Bool.{Bool, cond, not, _&&_}
 use mathlib.Core.List.{[]}
 use Prim.Native.Nat.{ℕ}
 use lib.Dec.{eqb, leb}
 use lib.Ieee.{Float, binary64, fits, isNan, toBits}
 use Rattle.exact.specs.Doubles.{_/f_, oneF, atLeastOne}
 use Rattle.error.specs.Refusals.{Said, given, refused, unless, numberOf, valuesOf}
-use Rattle.asynchro_fast.specs.Degrees.{pointsOf}
+use Rattle.error.specs.declared.Refusal.{Refusal}
+use Rattle.error.specs.declared.Refusal.the-variants as refusal
+use Rattle.kinds.specs.Kinds.{pointsOf, kindHolds}
 use Rattle.state.specs.declared.State.{State}
 use Rattle.sizes.specs.declared.Size.{Size}
 use Rattle.state.specs.declared.Made.{Made}
@@ -16,7 +18,7 @@ use Rattle.sizes.specs.Sizes.{neededInput, neededOutput, maxInput, maxOutput, i
 
 -- the points L of a record
 abbrev pub pointsIn : State → ℕ
-pointsIn s = pointsOf (s .degree)
+pointsIn s = pointsOf (s .kind)
 
 -- Document 02, R-2: "Store 1/current and 1/target in the state record". The step of an original, current or target ratio: the one place that divides 1 by one
 abbrev pub stepOf : Float → Float
@@ -66,9 +68,17 @@ maximaHold s = isFrames (maxInputOf s) && isFrames (maxOutputOf s)
 abbrev pub sizesHold : State → Bool
 sizesHold s = sizeIs (inputOf s) (s .input) && sizeIs (outputOf s) (s .output) && sizeHolds (maxInputOf s) (s .input) && sizeHolds (maxInputOf s) (s .fill)
 
--- "index finite and strictly between -2^17 and 2^17"
+-- "index finite and strictly between -2^17 and 2^17". R-4: a record of other points or factors passes no test
 unfoldable pub isState : State → Bool
-isState s = countsHold s && ratiosHold s && stepsHold s && maximaHold s && sizesHold s && isIndex (s .index)
+isState s = kindHolds (s .kind) && countsHold s && ratiosHold s && stepsHold s && maximaHold s && sizesHold s && isIndex (s .index)
+
+-- The first rungs of every call on a record. Document 02, R-4: "other points or factors 11, first"; document 01: "10, ..", "Questions about a state: 10 only"
+abbrev pub checked : {A : Type 0} → State → Said A → Said A
+checked s next = unless (kindHolds (s .kind)) 11 [] (unless (isState s) 10 [] next)
+
+-- the refusal of a record that does not pass
+abbrev pub faultOf : State → Refusal
+faultOf s = cond (kindHolds (s .kind)) refusal.StateRecord refusal.Argument
 
 -- a record with other values of the fields that calls change; the others never change
 abbrev pub changed : State → ℕ → ℕ → ℕ → ℕ → Float → Float → Float → Float → Float → State
@@ -87,7 +97,7 @@ changed s chunk input output fill index current target now then =
       now = now;
       then = then;
       m = s .m;
-      degree = s .degree;
+      kind = s .kind;
       fixed = s .fixed;
     }
 

@@ -1,9 +1,11 @@
 // The state record: its steps and sizes, the StateRecord test, and the one end of every call.
-use asynchro_fast::PolynomialDegree;
 use error::Refusal;
+use kinds::Kind;
 use sizes::FixedAsync;
 use sizes::Size;
 ghost use mathlib.Core.Path.{_≡_};
+ghost use mathlib.Core.Bool.{true};
+ghost use Rattle.kinds.specs.Kinds.{kindHolds};
 ghost use Rattle.state.specs.Record.{
   stepOf,
   stepNow,
@@ -20,13 +22,15 @@ ghost use Rattle.state.specs.Record.{
   maximaHold,
   sizesHold,
   isState,
+  faultOf,
   saidMade,
   updateLengths,
 };
 
 // Document 01, "The ratio state". `chunk0` is the construction chunk, `input` and `output` are the
 // needed sizes, `fill` the input frames that the working area holds, `m` the largest relative ratio.
-// Document 02, R-2: `now` and `then` are the stored steps, 1/current and 1/target.
+// Document 02, R-2: `now` and `then` are the stored steps, 1/current and 1/target. R-4: `kind` stands where
+// the degree stood.
 pub struct State {
     pub channels: usize,
     pub chunk: usize,
@@ -41,7 +45,7 @@ pub struct State {
     pub now: f64,
     pub then: f64,
     pub m: f64,
-    pub degree: PolynomialDegree,
+    pub kind: Kind,
     pub fixed: FixedAsync,
 }
 
@@ -75,8 +79,8 @@ pub fn step_then(s: State) -> f64
 pub fn points_in(s: State) -> usize
     ensures { λ n. ⌜ n ≡ pointsIn s ⌝ }
 {
-    let degree = s.degree;
-    asynchro_fast::nbr_points(degree)
+    let kind = s.kind;
+    kinds::nbr_points(kind)
 }
 
 pub fn input_of(s: State) -> Size
@@ -88,7 +92,10 @@ pub fn input_of(s: State) -> Size
     sizes::calculate_input_size(fixed, points_in(s), s.chunk, s.index, t1, t2)
 }
 
+// `output_of`, `sizes_hold` and `update_lengths` ask that the kind has passed its test; only our own crates
+// call these.
 pub fn output_of(s: State) -> Size
+    requires { ⌜ kindHolds (s .kind) ≡ true ⌝ }
     ensures { λ r. ⌜ r ≡ outputOf s ⌝ }
 {
     let t1 = step_now(s);
@@ -153,6 +160,7 @@ pub fn maxima_hold(s: State) -> bool
 }
 
 pub fn sizes_hold(s: State) -> bool
+    requires { ⌜ kindHolds (s .kind) ≡ true ⌝ }
     ensures { λ b. ⌜ b ≡ sizesHold s ⌝ }
 {
     let most = max_input_of(s);
@@ -162,10 +170,14 @@ pub fn sizes_hold(s: State) -> bool
         & sizes::size_holds(most, s.fill)
 }
 
-// The StateRecord test, refusal 10.
+// The test of every call on a record: its kind, refusal 11, and StateRecord, refusal 10.
 pub fn is_state(s: State) -> bool
     ensures { λ b. ⌜ b ≡ isState s ⌝ }
 {
+    let kind = s.kind;
+    if !kinds::kind_holds(kind) {
+        return false;
+    }
     counts_hold(s)
         & ratios_hold(s)
         & steps_hold(s)
@@ -174,8 +186,20 @@ pub fn is_state(s: State) -> bool
         & bounds::is_index(s.index)
 }
 
+// What a record that fails the test is refused with: 11 before 10.
+pub fn fault_of(s: State) -> Refusal
+    ensures { λ r. ⌜ r ≡ faultOf s ⌝ }
+{
+    let kind = s.kind;
+    if kinds::kind_holds(kind) {
+        return Refusal::StateRecord;
+    }
+    Refusal::Argument
+}
+
 // The one end of every call: sizes, refusal 6, the record put together.
 pub fn update_lengths(s: State) -> Made
+    requires { ⌜ kindHolds (s .kind) ≡ true ⌝ }
     ensures { λ r. ⌜ saidMade r ≡ updateLengths s ⌝ }
 {
     let needed = input_of(s);

@@ -1,0 +1,2 @@
+-- Laws of the kinds. Assumes nothing.
+pub mod Laws

@@ -1,0 +1,2 @@
+-- What a record resamples by. Definitions only.
+pub mod Kinds

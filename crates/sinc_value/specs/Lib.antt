@@ -1,0 +1,2 @@
+-- A frame's value by a sinc. Definitions only.
+pub mod Values
