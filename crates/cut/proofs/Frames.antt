@@ -11,9 +11,8 @@ use lib.Pow.{pow-add, pow-pos}
 use Rattle.exact.specs.Whole.{Whole, Less, AtMost, Below}
 use Rattle.exact.specs.Exact.{exact, Number}
 use Rattle.path.specs.Path.{pathAt}
-use Rattle.path.specs.Places.{shiftOf, lastOf}
-use Rattle.path.proofs.Places.{shift-small, last-small}
-use Rattle.path.proofs.Bounds.{path-fits, reach-placed}
+use Rattle.kinds.proofs.Laws.{points-few}
+use Rattle.path.proofs.Inside.{path-fits, reach-inside}
 use Rattle.state.specs.declared.State.{State}
 use Rattle.state.specs.Record.{stepNow, isState}
 use Rattle.state.proofs.Valid.{valid}
@@ -78,22 +77,22 @@ kept-order s used total true = (
 )
 
 -- ---- in a block that is not refused every index is below 2^17 in size
-inside : (O shift last : ℕ) (v : Whole) → shift < 131072 → last < 131072 → 0 < O → AtMost (0, shift * O) v → Less v ((last + 1) * O, shift * O) → Below (131072 * O) v
-inside O shift last v p q k h l =
-    let r : last + 1 ≤ 131072 = omega arith in
-    omega (arith, mul-lt-mul-of-pos-right p k, mul-le-mul-right O r)
+inside : (O l c : ℕ) (v : Whole) → l ≤ 256 → c ≤ 65536 → 0 < O → AtMost (0, (2 * l + 1) * O) v → Less v ((c + 1) * O, 0) → Below (131072 * O) v
+inside O l c v p q k h m =
+    let r : 2 * l + 1 < 131072 = omega arith in
+    let n : c + 1 ≤ 131072 = omega arith in
+    omega (arith, mul-lt-mul-of-pos-right r k, mul-le-mul-right O n)
 
 module _ (s : State) (a : isState s ≡ true) (b : reachHolds s ≡ true) where
   pub index-inside : (k : ℕ) → k < s .output → (x : Float) → x ≡ pathAt (stepNow s) (incrementOf s) (s .index) (suc k) .index
       → Number binary64 x × Below (2 ^ (17 + low binary64)) (exact binary64 x)
   index-inside k l x e =
-      let shift = shiftOf (s .degree) in
-      let last = lastOf (s .degree) (s .input) in
-      let p = reach-placed shift last (stepNow s) (incrementOf s) (s .index) (s .output) b (suc k) (omega arith) l in
+      let z = valid s a in
+      let p = reach-inside (s .kind) (z .kind-holds) (s .input) (stepNow s) (incrementOf s) (s .index) (s .output) b (suc k) (omega arith) l in
       rw e (
         p .number,
         subst (λ (z : ℕ). Below z (exact binary64 (pathAt (stepNow s) (incrementOf s) (s .index) (suc k) .index))) (sym (pow-add 2 17 1074))
-            (inside (2 ^ 1074) shift last _ (shift-small (s .degree)) (last-small (s .degree) (s .input) (valid s a .input-few)) (pow-pos 1074) (p .atLeast) (p .below)),
+            (inside (2 ^ 1074) _ (s .input) _ (points-few (s .kind) (z .kind-holds)) (z .input-few) (pow-pos 1074) (p .atLeast) (p .below)),
       )
 
   frame-iff : (used edge k : ℕ) → k < s .output → T (lt (pathAt (stepNow s) (incrementOf s) (s .index) (suc k) .index) (limitOf used edge)) ↔ Less (positionOf s used k) (edgeOf edge)

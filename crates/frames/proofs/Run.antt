@@ -8,16 +8,16 @@ use native.Mathlib.Omega.{arith}
 use lib.Ieee.{Float}
 use lib.ListN.{length, take, drop, set, length-append, length-drop, length-set}
 use lib.Seq.{paste, paste-zero, length-paste, length-take-le}
-use Rattle.asynchro_fast.specs.declared.PolynomialDegree.{PolynomialDegree}
+use Rattle.kinds.specs.declared.Kind.{Kind}
 use Rattle.area.specs.Parts.{partOf}
 use Rattle.channel.specs.Mask.{isOn, whereOn}
 use Rattle.channel.proofs.Switched.{where-long, where-same}
 use Rattle.area.proofs.Parts.{Keeps, part-long, length-each, each-none, each-same, each-each}
 use Rattle.area.proofs.Parted.{Parted, parted-next, lent-is, lent-long, given-back}
 use Rattle.path.specs.declared.Moment.{Moment}
-use Rattle.path.specs.declared.Place.{Place}
+use Rattle.path.specs.declared.Site.{Site}
 use Rattle.path.specs.Path.{stepIndex, pathAt}
-use Rattle.path.specs.Places.{placeOf, shiftOf, lastOf}
+use Rattle.path.specs.Sites.{siteOf}
 use Rattle.frames.specs.Run.{valueAt, framesTo, ranIn, ranAll}
 use Rattle.frames.specs.Turns.{wroteIn, wroteAll}
 use Rattle.path.proofs.Path.{path-next}
@@ -28,18 +28,18 @@ use Rattle.frames.proofs.Frames.{frameOf, frames-long, frame-next}
 pub written : (on : Bool) (o : List Float) (k : ℕ) (v w : Float) → on ≡ true → v ≡ w → set o k v ≡ whereOn on (set o k w) o
 written on o k v w e h = rw (e, h)
 
-module _ (degree : PolynomialDegree) (mask : ℕ) (work : List Float) (stride : ℕ) (p : Place) (k share : ℕ) where
-  pub wrote-keeps : (channels : ℕ) → Keeps (wroteIn degree mask work stride p k) share channels
-  wrote-keeps channels c l o e = where-long (isOn mask c) (set o k (valueAt degree (partOf stride c work) p)) o share (length-set o k _ ∙ e) e
+module _ (table : List Float) (mask : ℕ) (work : List Float) (stride : ℕ) (site : Site) (k share : ℕ) where
+  pub wrote-keeps : (channels : ℕ) → Keeps (wroteIn table mask work stride site k) share channels
+  wrote-keeps channels c l o e = where-long (isOn mask c) (set o k (valueAt table (partOf stride c work) site)) o share (length-set o k _ ∙ e) e
 
   -- one channel more, whose shares of both areas were lent
-  pub wrote-next : (out₀ out ys : List Float) (c : ℕ) (on : Bool) → Parted (wroteIn degree mask work stride p k) share out₀ out c → c * share + share ≤ length out₀
+  pub wrote-next : (out₀ out ys : List Float) (c : ℕ) (on : Bool) → Parted (wroteIn table mask work stride site k) share out₀ out c → c * share + share ≤ length out₀
       → on ≡ isOn mask c
-      → ys ≡ whereOn on (set (take (c * share + share - c * share) (drop (c * share) out)) k (valueAt degree (take (c * stride + stride - c * stride) (drop (c * stride) work)) p))
+      → ys ≡ whereOn on (set (take (c * share + share - c * share) (drop (c * share) out)) k (valueAt table (take (c * stride + stride - c * stride) (drop (c * stride) work)) site))
       (take (c * share + share - c * share) (drop (c * share) out))
-      → Parted (wroteIn degree mask work stride p k) share out₀ (take (c * share) out ++ (ys ++ drop (c * share + share - c * share) (drop (c * share) out))) (c + 1)
+      → Parted (wroteIn table mask work stride site k) share out₀ (take (c * share) out ++ (ys ++ drop (c * share + share - c * share) (drop (c * share) out))) (c + 1)
   wrote-next out₀ out ys c on r h e y =
-      let g = wroteIn degree mask work stride p k in
+      let g = wroteIn table mask work stride site k in
       let lent = take (c * share + share - c * share) (drop (c * share) out) in
       let is : ys ≡ g c lent = rw (lent-is (c * stride) stride work, e) at y in
       let fits : c * share + share ≤ length out = omega (arith, h, r .long) in
@@ -50,69 +50,69 @@ module _ (degree : PolynomialDegree) (mask : ℕ) (work : List Float) (stride : 
       (given-back g share c out ys is)
 
 -- ---- the frames of all channels
-module _ (degree : PolynomialDegree) (needed mask : ℕ) (work : List Float) (stride : ℕ) (t d i : Float) (at share : ℕ) where
+module _ (kind : Kind) (table : List Float) (needed mask : ℕ) (work : List Float) (stride : ℕ) (t d i : Float) (at share : ℕ) where
   -- a share stays as long as it was
-  pub ran-keeps : (n channels : ℕ) → at + n ≤ share → Keeps (ranIn degree needed mask work stride t d i n at) share channels
+  pub ran-keeps : (n channels : ℕ) → at + n ≤ share → Keeps (ranIn kind table needed mask work stride t d i n at) share channels
   ran-keeps n channels h c l o e =
-      let a = framesTo degree needed (partOf stride c work) t d i n in
+      let a = framesTo kind table needed (partOf stride c work) t d i n in
       where-long (isOn mask c) (paste o at a n) o share (length-paste o at a n (omega arith) (rw frames-long (omega arith)) ∙ e) e
 
   pub ran-long : (n channels : ℕ) (out : List Float) → at + n ≤ share → channels * share ≤ length out
-      → length (ranAll degree needed mask work stride t d i n at share channels out) ≡ length out
-  ran-long n channels out h k = length-each (ranIn degree needed mask work stride t d i n at) share channels out (ran-keeps n channels h) k
+      → length (ranAll kind table needed mask work stride t d i n at share channels out) ≡ length out
+  ran-long n channels out h k = length-each (ranIn kind table needed mask work stride t d i n at) share channels out (ran-keeps n channels h) k
 
   -- one frame more in the channel c
   turn : (f c : ℕ) (o : List Float) → at + f < length o
-      → wroteIn degree mask work stride (placeOf (shiftOf degree) (lastOf degree needed) (pathAt t d i (suc f) .index)) (at + f) c (ranIn degree needed mask work stride t d i f at c o)
-      ≡ ranIn degree needed mask work stride t d i (suc f) at c o
+      → wroteIn table mask work stride (siteOf kind needed (pathAt t d i (suc f) .index)) (at + f) c (ranIn kind table needed mask work stride t d i f at c o)
+      ≡ ranIn kind table needed mask work stride t d i (suc f) at c o
   turn f c o h = go (isOn mask c)
     where
       w : List Float
       w = partOf stride c work
 
-      go : (b : Bool) → whereOn b (set (whereOn b (paste o at (framesTo degree needed w t d i f) f) o) (at + f) (frameOf degree needed w t d i f)) (whereOn b (paste o at (framesTo degree needed w t d i f) f) o)
-          ≡ whereOn b (paste o at (framesTo degree needed w t d i (suc f)) (suc f)) o
-      go true = frame-next degree needed w t d i o at f h
+      go : (b : Bool) → whereOn b (set (whereOn b (paste o at (framesTo kind table needed w t d i f) f) o) (at + f) (frameOf kind table needed w t d i f)) (whereOn b (paste o at (framesTo kind table needed w t d i f) f) o)
+          ≡ whereOn b (paste o at (framesTo kind table needed w t d i (suc f)) (suc f)) o
+      go true = frame-next kind table needed w t d i o at f h
       go false = refl
 
 -- ---- the run: what holds after f frames
-pub record Ran (degree : PolynomialDegree) (needed mask : ℕ) (work : List Float) (stride : ℕ) (t d i : Float) (at share channels : ℕ) (out₀ out : List Float) (moment : Moment) (f : ℕ) : Type 0 where
+pub record Ran (kind : Kind) (table : List Float) (needed mask : ℕ) (work : List Float) (stride : ℕ) (t d i : Float) (at share channels : ℕ) (out₀ out : List Float) (moment : Moment) (f : ℕ) : Type 0 where
   pub long : length out ≡ length out₀
   pub along : moment ≡ pathAt t d i f
-  pub is : out ≡ ranAll degree needed mask work stride t d i f at share channels out₀
+  pub is : out ≡ ranAll kind table needed mask work stride t d i f at share channels out₀
 
-module _ (degree : PolynomialDegree) (needed mask : ℕ) (work : List Float) (stride : ℕ) (t d i : Float) (at share channels : ℕ) (out₀ : List Float) where
-  pub ran-none : Ran degree needed mask work stride t d i at share channels out₀ out₀ (record { index = i; step = t }) 0
+module _ (kind : Kind) (table : List Float) (needed mask : ℕ) (work : List Float) (stride : ℕ) (t d i : Float) (at share channels : ℕ) (out₀ : List Float) where
+  pub ran-none : Ran kind table needed mask work stride t d i at share channels out₀ out₀ (record { index = i; step = t }) 0
   unfolding pathAt
   ran-none =
       record {
         long = refl;
         along = refl;
         is =
-            sym (each-none (ranIn degree needed mask work stride t d i 0 at) share channels out₀
-            (λ c l. let o = partOf share c out₀ in where-same (isOn mask c) _ o (sym (paste-zero o at (framesTo degree needed (partOf stride c work) t d i 0)))));
+            sym (each-none (ranIn kind table needed mask work stride t d i 0 at) share channels out₀
+            (λ c l. let o = partOf share c out₀ in where-same (isOn mask c) _ o (sym (paste-zero o at (framesTo kind table needed (partOf stride c work) t d i 0)))));
       }
 
-  pub ran-next : (out out′ : List Float) (moment moment′ : Moment) (p : Place) (f : ℕ) → Ran degree needed mask work stride t d i at share channels out₀ out moment f
-      → channels * share ≤ length out₀ → at + f < share → length out′ ≡ length out → moment′ ≡ stepIndex d moment → p ≡ placeOf (shiftOf degree) (lastOf degree needed) (moment′ .index)
-      → out′ ≡ wroteAll degree mask work stride p (at + f) share channels out
-      → Ran degree needed mask work stride t d i at share channels out₀ out′ moment′ (f + 1)
-  ran-next out out′ moment moment′ p f r h k l e q w =
+  pub ran-next : (out out′ : List Float) (moment moment′ : Moment) (site : Site) (f : ℕ) → Ran kind table needed mask work stride t d i at share channels out₀ out moment f
+      → channels * share ≤ length out₀ → at + f < share → length out′ ≡ length out → moment′ ≡ stepIndex d moment → site ≡ siteOf kind needed (moment′ .index)
+      → out′ ≡ wroteAll table mask work stride site (at + f) share channels out
+      → Ran kind table needed mask work stride t d i at share channels out₀ out′ moment′ (f + 1)
+  ran-next out out′ moment moment′ site f r h k l e q w =
       let m = path-next t d i moment moment′ f (r .along) e in
       let n : moment′ ≡ pathAt t d i (suc f) = rw add-one at m in
-      let u : p ≡ placeOf (shiftOf degree) (lastOf degree needed) (pathAt t d i (suc f) .index) = rw n at q in
-      let g = ranIn degree needed mask work stride t d i f at in
-      let v = wroteIn degree mask work stride (placeOf (shiftOf degree) (lastOf degree needed) (pathAt t d i (suc f) .index)) (at + f) in
+      let u : site ≡ siteOf kind needed (pathAt t d i (suc f) .index) = rw n at q in
+      let g = ranIn kind table needed mask work stride t d i f at in
+      let v = wroteIn table mask work stride (siteOf kind needed (pathAt t d i (suc f) .index)) (at + f) in
       record {
         long = l ∙ r .long;
         along = m;
         is =
             rw (w, r .is, u, add-one) (
-            each-each g share channels out₀ (ran-keeps degree needed mask work stride t d i at share f channels (omega arith)) h v
-            ∙ each-same (λ c o. v c (g c o)) (ranIn degree needed mask work stride t d i (suc f) at) share channels out₀
-            (λ c j. turn degree needed mask work stride t d i at share f c (partOf share c out₀) (rw (part-long share channels c out₀ h j) k)));
+            each-each g share channels out₀ (ran-keeps kind table needed mask work stride t d i at share f channels (omega arith)) h v
+            ∙ each-same (λ c o. v c (g c o)) (ranIn kind table needed mask work stride t d i (suc f) at) share channels out₀
+            (λ c j. turn kind table needed mask work stride t d i at share f c (partOf share c out₀) (rw (part-long share channels c out₀ h j) k)));
       }
 
-  pub ran-done : (out : List Float) (moment : Moment) (f n : ℕ) → Ran degree needed mask work stride t d i at share channels out₀ out moment f → f ≡ n
-      → out ≡ ranAll degree needed mask work stride t d i n at share channels out₀
+  pub ran-done : (out : List Float) (moment : Moment) (f n : ℕ) → Ran kind table needed mask work stride t d i at share channels out₀ out moment f → f ≡ n
+      → out ≡ ranAll kind table needed mask work stride t d i n at share channels out₀
   ran-done out moment f n r e = rw (← e) (r .is)

@@ -44,13 +44,13 @@ abbrev pub blendPlace : Float → ℕ → Float
 blendPlace x factor = splitOf (x *f count factor) .frac
 
 abbrev pub nth : List Spot → ℕ → Spot
-nth as k = getD as k Lost
+nth spots k = getD spots k Lost
 
 abbrev pub blended : SincInterpolationType → List Spot → Float → Spots
-blended Nearest as x = One (nth as 0)
-blended Linear as x = Two (nth as 0) (nth as 1) x
-blended Quadratic as x = Three (nth as 0) (nth as 1) (nth as 2) x
-blended Cubic as x = Four (nth as 0) (nth as 1) (nth as 2) (nth as 3) x
+blended Nearest spots x = One (nth spots 0)
+blended Linear spots x = Two (nth spots 0) (nth spots 1) x
+blended Quadratic spots x = Three (nth spots 0) (nth spots 1) (nth spots 2) x
+blended Cubic spots x = Four (nth spots 0) (nth spots 1) (nth spots 2) (nth spots 3) x
 
 -- the spots of the grid points; an index that has none, which the grid functions answer 11, is nowhere
 abbrev pub spotsSaid : SincInterpolationType → ℕ → ℕ → Float → Said (List Point) → Spots

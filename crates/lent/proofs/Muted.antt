@@ -13,6 +13,7 @@ use Rattle.error.specs.Refusals.{Said, given, refused}
 use Rattle.error.proofs.Ladder.{accepted}
 use Rattle.state.specs.declared.State.{State}
 use Rattle.state.specs.Record.{stepNow, isState}
+use Rattle.state.proofs.Checked.{check-accepted}
 use Rattle.state.proofs.Valid.{valid}
 use Rattle.channel.specs.Mask.{isOn}
 use Rattle.area.specs.Parts.{partOf}
@@ -48,7 +49,7 @@ share-is channels k share a w e m =
     let p : channels * (k / channels) ≤ channels * share = omega arith in
     le-antisymm (le-of-mul-le-mul-left p a) e
 
-module _ (s : State) (frames mask : ℕ) (input output work : List Float) (c : ℕ) (l : c < s .channels) (off : isOn mask c ≡ false) where
+module _ (s : State) (frames mask : ℕ) (table input output work : List Float) (c : ℕ) (l : c < s .channels) (off : isOn mask c ≡ false) where
   abbrev most : ℕ
   most = areaLength (s .channels) (s .output)
 
@@ -70,8 +71,8 @@ module _ (s : State) (frames mask : ℕ) (input output work : List Float) (c : �
       let m : length (take most output) ≤ most = rw length-take (min-le-left most (length output)) in
       rw (zeros-long, area-all (s .channels) (s .output) (v .channels-few) (v .output-few)) m
 
-  after : isState s ≡ true → Shaped s frames (length lentInput) (length zeros) (length lentWork) → (w : List Float)
-      → partOf (s .output) c (outputAfter s mask w 0 zeros ++ drop most output) ≡ replicate (s .output) zeroF
+  after : isState s ≡ true → Shaped s frames (length table) (length lentInput) (length zeros) (length lentWork) → (w : List Float)
+      → partOf (s .output) c (outputAfter s mask table w 0 zeros ++ drop most output) ≡ replicate (s .output) zeroF
   unfolding outputAfter
   after h k w =
       let v = valid s h in
@@ -79,25 +80,25 @@ module _ (s : State) (frames mask : ℕ) (input output work : List Float) (c : �
       let q : length zeros / s .channels ≡ s .output = share-is (s .channels) (length zeros) (s .output) (v .channels-some) (o .whole) (o .enough) (zeros-most h) in
       let whole : s .channels * s .output ≤ length zeros = rw q at (le-of-eq (o .whole)) in
       let fits = room c (s .channels) (s .output) (length zeros) l whole in
-      let long : length (outputAfter s mask w 0 zeros) ≡ length zeros
-      = ran-long (s .degree) (s .input) mask w (strideOf s) (stepNow s) (incrementOf s) (s .index) 0 (length zeros / s .channels) (s .output) (s .channels) zeros
+      let long : length (outputAfter s mask table w 0 zeros) ≡ length zeros
+      = ran-long (s .kind) table (s .input) mask w (strideOf s) (stepNow s) (incrementOf s) (s .index) 0 (length zeros / s .channels) (s .output) (s .channels) zeros
       (rw zero-add (o .enough)) (le-of-eq (o .whole)) in
-      let stays : partOf (length zeros / s .channels) c (outputAfter s mask w 0 zeros) ≡ partOf (length zeros / s .channels) c zeros
-      = run-off (s .degree) (s .input) mask (strideOf s) (stepNow s) (incrementOf s) (s .index) (s .output) 0 (length zeros / s .channels) (s .channels)
+      let stays : partOf (length zeros / s .channels) c (outputAfter s mask table w 0 zeros) ≡ partOf (length zeros / s .channels) c zeros
+      = run-off (s .kind) table (s .input) mask (strideOf s) (stepNow s) (incrementOf s) (s .index) (s .output) 0 (length zeros / s .channels) (s .channels)
       (rw zero-add (o .enough)) w zeros (le-of-eq (o .whole)) c l off in
-      part-front (s .output) c (outputAfter s mask w 0 zeros) (drop most output) (omega arith)
-      ∙ (ap (λ (n : ℕ). partOf n c (outputAfter s mask w 0 zeros)) (sym q) ∙ stays ∙ ap (λ (n : ℕ). partOf n c zeros) q)
+      part-front (s .output) c (outputAfter s mask table w 0 zeros) (drop most output) (omega arith)
+      ∙ (ap (λ (n : ℕ). partOf n c (outputAfter s mask table w 0 zeros)) (sym q) ∙ stays ∙ ap (λ (n : ℕ). partOf n c zeros) q)
       ∙ part-same (length (take most output)) (s .output) c zeroF (omega (arith, zeros-long))
 
   -- "what is lent for a muted channel is zeros": of every accepted block, whatever the areas held
-  pub muted-is-zeros : (u : Sizes) → lentOf s frames mask input output work .said ≡ given u
-      → partOf (s .output) c (lentOf s frames mask input output work .output) ≡ replicate (s .output) zeroF
+  pub muted-is-zeros : (u : Sizes) → lentOf s frames mask table input output work .said ≡ given u
+      → partOf (s .output) c (lentOf s frames mask table input output work .output) ≡ replicate (s .output) zeroF
   unfolding lentOf planned
-  muted-is-zeros u a = go (planned s frames mask (length lentInput) (length zeros) (length lentWork)) refl a
+  muted-is-zeros u a = go (planned s frames mask (length table) (length lentInput) (length zeros) (length lentWork)) refl a
     where
-      go : (p : Said State) → planned s frames mask (length lentInput) (length zeros) (length lentWork) ≡ p → blockEnd s frames mask lentInput zeros lentWork p .said ≡ given u
-          → partOf (s .output) c (blockEnd s frames mask lentInput zeros lentWork p .output ++ drop most output) ≡ replicate (s .output) zeroF
+      go : (p : Said State) → planned s frames mask (length table) (length lentInput) (length zeros) (length lentWork) ≡ p → blockEnd s frames mask table lentInput zeros lentWork p .said ≡ given u
+          → partOf (s .output) c (blockEnd s frames mask table lentInput zeros lentWork p .output ++ drop most output) ≡ replicate (s .output) zeroF
       go (refused n vs) q a = absurd (let x : _≡_ {A = ℕ} 0 1 = cc in omega arith)
       go (given t) q a =
-          let p = accepted _ _ _ _ _ q in
-          after (p .0) (shaped s frames mask (length lentInput) (length zeros) (length lentWork) (p .0) (accepted _ _ _ _ _ (p .1) .0)) (workAfter s frames mask lentInput 0 lentWork)
+          let p = check-accepted s _ t q in
+          after (p .0) (shaped s frames mask (length table) (length lentInput) (length zeros) (length lentWork) (p .0) (accepted _ _ _ _ _ (p .1) .0)) (workAfter s frames mask lentInput 0 lentWork)

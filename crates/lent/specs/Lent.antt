@@ -28,10 +28,10 @@ behind b output work = record { state = b .state; said = b .said; output = b .ou
 abbrev pub zerosOf : ℕ → List Float → List Float
 zerosOf n xs = replicate (length (take n xs)) zeroF
 
--- the block on the front of the input, on zeros in place of the output's front, and on the front of the working area; what lies behind the fronts stays
-unfoldable pub lentOf : State → ℕ → ℕ → List Float → List Float → List Float → Block Sizes
-lentOf s frames mask input output work =
+-- the block on the table, on the front of the input, on zeros in place of the output's front, and on the front of the working area; what lies behind the fronts stays
+unfoldable pub lentOf : State → ℕ → ℕ → List Float → List Float → List Float → List Float → Block Sizes
+lentOf s frames mask table input output work =
     behind
-    (blockOf s frames mask (take (areaLength (s .channels) (s .input)) input) (zerosOf (areaLength (s .channels) (s .output)) output) (take (workLength s) work))
+    (blockOf s frames mask table (take (areaLength (s .channels) (s .input)) input) (zerosOf (areaLength (s .channels) (s .output)) output) (take (workLength s) work))
     (drop (areaLength (s .channels) (s .output)) output)
     (drop (workLength s) work)

@@ -39,26 +39,28 @@ fn run_on_zeros(
     s: State,
     frames: usize,
     mask: u64,
+    table: &[f64],
     input: &[f64],
     output: &mut [f64],
     work: &mut [f64],
 ) -> BlockOutcome
-    ensures { λ o. ⌜ blockLeft o (now (output .exit)) (now (work .exit)) ≡ blockOf s frames mask (now (input .entry)) (replicate (length (now (output .entry))) zeroF) (now (work .entry)) ⌝ }
+    ensures { λ o. ⌜ blockLeft o (now (output .exit)) (now (work .exit)) ≡ blockOf s frames mask (now (table .entry)) (now (input .entry)) (replicate (length (now (output .entry))) zeroF) (now (work .entry)) ⌝ }
 {
     area::zero_all(output);
-    process::process_into_buffer(s, frames, mask, input, output, work)
+    process::process_into_buffer(s, frames, mask, table, input, output, work)
 }
 
-// The block on the front parts of the areas, each of the length that the record asks for or as much as there is.
+// The block on the table and on the front parts of the areas, each of the length that the record asks for or as much as there is.
 pub fn run_block(
     s: State,
     frames: usize,
     mask: u64,
+    table: &[f64],
     input: &[f64],
     output: &mut [f64],
     work: &mut [f64],
 ) -> BlockOutcome
-    ensures { λ o. ⌜ blockLeft o (now (output .exit)) (now (work .exit)) ≡ lentOf s frames mask (now (input .entry)) (now (output .entry)) (now (work .entry)) ⌝ }
+    ensures { λ o. ⌜ blockLeft o (now (output .exit)) (now (work .exit)) ≡ lentOf s frames mask (now (table .entry)) (now (input .entry)) (now (output .entry)) (now (work .entry)) ⌝ }
 {
     let a = samples_of(input, area_length(s.channels, s.input));
     let b = samples_of(output, area_length(s.channels, s.output));
@@ -67,6 +69,7 @@ pub fn run_block(
         s,
         frames,
         mask,
+        table,
         &input[..a],
         &mut output[..b],
         &mut work[..n],

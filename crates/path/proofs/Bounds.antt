@@ -2,7 +2,7 @@
 use mathlib.Core.Bool.{Bool, true, false, _&&_, true≢false, false≢true, and-eq-true-iff}
 use mathlib.Core.Logic.{_↔_}
 use mathlib.Core.Path.{_≡_, refl, sym, ap, _∙_, subst}
-use Prim.Native.Nat.{ℕ, zero, suc, _+_, _-_, _*_, _/_, _^_, _≤_, _<_}
+use Prim.Native.Nat.{ℕ, _+_, _-_, _*_, _/_, _^_, _≤_, _<_}
 use native.Mathlib.Nat.{mul-one, mul-div-cancel, mul-le-mul-right, lt-of-mul-lt-mul-right, le-of-mul-le-mul-right}
 use native.Mathlib.Omega.{arith}
 use borrow.Author.Tests.{leb-true, le-leb}
@@ -10,11 +10,10 @@ use lib.Dec.{T, leb}
 use lib.IntN.{ℤ}
 use lib.Ieee.{Float, nan, inf, fin, binary64, low, up, down, fits}
 use lib.Ieee.Exact.{HasValue}
-use lib.Ieee.Fits.{down-pos, add-fits}
+use lib.Ieee.Fits.{down-pos}
 use lib.Pow.{pow-pos}
 use Rattle.exact.specs.Whole.{Whole, _⊕_, _⊙_, Less, AtMost}
 use Rattle.exact.specs.Exact.{exact, Number}
-use Rattle.exact.specs.Doubles.{_+f_}
 use Rattle.whole.specs.Rounded.{wholeF, madeWhole, partDiv, overDiv, floorOf}
 use Rattle.whole.specs.Numbers.{Greatest}
 use Rattle.whole.proofs.Held.{next-value, wholeF-value}
@@ -22,9 +21,7 @@ use Rattle.whole.proofs.Divisions.{part-next, over-next}
 use Rattle.whole.proofs.Units.{whole-exact}
 use Rattle.whole.proofs.Values.{floor-greatest}
 use Rattle.path.specs.declared.Place.the-variants.{At}
-use Rattle.path.specs.Path.{pathAt}
-use Rattle.path.specs.Places.{within, placeFrom, placeOf, isAt, allReach}
-use Rattle.path.proofs.Path.{reach-each}
+use Rattle.path.specs.Places.{within, placeFrom, placeOf, isAt}
 
 -- ---- what a place says of a whole number n with a sign
 at-within : (b : Bool) (s : ℕ) (x : Float) → isAt (within b (At s x)) ≡ b
@@ -117,13 +114,3 @@ place-iff shift last (fin true m e) t =
 
 pub place-bounds : (shift last : ℕ) (x : Float) → T (fits binary64 x) → isAt (placeOf shift last x) ≡ true → Placed shift last x
 place-bounds shift last x t h = place-iff shift last x t .0 h
-
--- ---- along the path: where every frame is in reach, every index is such a number
-pub path-fits : (t d i : Float) (f : ℕ) → T (fits binary64 (pathAt t d i (suc f) .index))
-unfolding pathAt
-path-fits t d i f = add-fits binary64 (pathAt t d i f .index) (pathAt t d i f .step +f d)
-
-pub reach-placed : (shift last : ℕ) (t d i : Float) (n : ℕ) → allReach shift last t d i n ≡ true → (f : ℕ) → 1 ≤ f → f ≤ n → Placed shift last (pathAt t d i f .index)
-reach-placed shift last t d i n r zero l k = absurd (omega arith)
-reach-placed shift last t d i n r (suc f) l k =
-    place-bounds shift last (pathAt t d i (suc f) .index) (path-fits t d i f) (reach-each shift last t d i n r (suc f) l k)

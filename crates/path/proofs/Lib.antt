@@ -4,3 +4,4 @@ pub mod Places
 pub mod Path
 pub mod Front
 pub mod Bounds
+pub mod Sites

@@ -8,50 +8,50 @@ use native.Mathlib.Numerals.{add-one}
 use native.Mathlib.Omega.{arith}
 use lib.Ieee.{Float}
 use Rattle.path.specs.declared.Moment.{Moment}
-use Rattle.path.specs.declared.Place.{Place}
+use Rattle.path.specs.declared.Site.{Site}
 use Rattle.path.specs.Path.{stepIndex, pathAt}
-use Rattle.path.specs.Places.{placeOf, isAt, allReach}
+use Rattle.kinds.specs.declared.Kind.{Kind}
+use Rattle.path.specs.Sites.{siteOf, reached, allReach}
 
 -- ---- the look: what holds after f frames
-pub record Along (shift last : ℕ) (t d i : Float) (at : Moment) (reach : Bool) (f : ℕ) : Type 0 where
+pub record Along (kind : Kind) (needed : ℕ) (t d i : Float) (at : Moment) (reach : Bool) (f : ℕ) : Type 0 where
   pub moment : at ≡ pathAt t d i f
-  pub all : reach ≡ allReach shift last t d i f
+  pub all : reach ≡ allReach kind needed t d i f
 
 pub path-next : (t d i : Float) (at at′ : Moment) (f : ℕ) → at ≡ pathAt t d i f → at′ ≡ stepIndex d at → at′ ≡ pathAt t d i (f + 1)
 unfolding pathAt
 path-next t d i at at′ f e h = rw (add-one, ← e) h
 
-module _ (shift last : ℕ) (t d i : Float) where
-  pub along-none : Along shift last t d i (record { index = i; step = t }) true 0
+module _ (kind : Kind) (needed : ℕ) (t d i : Float) where
+  pub along-none : Along kind needed t d i (record { index = i; step = t }) true 0
   unfolding pathAt allReach
   along-none = record { moment = refl; all = refl }
 
-  pub along-next : (at at′ : Moment) (reach b : Bool) (p : Place) (f : ℕ) → Along shift last t d i at reach f
-      → at′ ≡ stepIndex d at → p ≡ placeOf shift last (at′ .index) → b ≡ isAt p → Along shift last t d i at′ (reach && b) (f + 1)
+  pub along-next : (at at′ : Moment) (reach b : Bool) (p : Site) (f : ℕ) → Along kind needed t d i at reach f
+      → at′ ≡ stepIndex d at → p ≡ siteOf kind needed (at′ .index) → b ≡ reached p → Along kind needed t d i at′ (reach && b) (f + 1)
   unfolding allReach
   along-next at at′ reach b p f a e h k =
       let m = path-next t d i at at′ f (a .moment) e in
       let q : at′ ≡ pathAt t d i (suc f) = rw add-one at m in
       record { moment = m; all = rw (k, h, a .all, q, add-one) }
 
-  pub along-done : (shift′ last′ : ℕ) (at : Moment) (reach : Bool) (f n : ℕ) → Along shift last t d i at reach f → shift ≡ shift′ → last ≡ last′ → f ≡ n
-      → (reach ≡ allReach shift′ last′ t d i n) × (at .index ≡ pathAt t d i n .index)
-  along-done shift′ last′ at reach f n a s l e = rw (← s, ← l, ← e) (a .all, ap (λ (m : Moment). m .index) (a .moment))
+  pub along-done : (at : Moment) (reach : Bool) (f n : ℕ) → Along kind needed t d i at reach f → f ≡ n → (reach ≡ allReach kind needed t d i n) × (at .index ≡ pathAt t d i n .index)
+  along-done at reach f n a e = rw (← e) (a .all, ap (λ (m : Moment). m .index) (a .moment))
 
 -- ---- Reach says of every frame that it is in reach, and no less
-module _ (shift last : ℕ) (t d i : Float) where
-  -- frame f's index, the first frame being frame 1, has a place
+module _ (kind : Kind) (needed : ℕ) (t d i : Float) where
+  -- the samples of frame f, the first frame being frame 1, are in reach
   abbrev pub InReach : ℕ → Type 0
-  InReach f = isAt (placeOf shift last (pathAt t d i f .index)) ≡ true
+  InReach f = reached (siteOf kind needed (pathAt t d i f .index)) ≡ true
 
-  pub reach-each : (n : ℕ) → allReach shift last t d i n ≡ true → (f : ℕ) → 1 ≤ f → f ≤ n → InReach f
+  pub reach-each : (n : ℕ) → allReach kind needed t d i n ≡ true → (f : ℕ) → 1 ≤ f → f ≤ n → InReach f
   unfolding allReach
   reach-each zero h f l k = absurd (omega arith)
   reach-each (suc n) h f l k =
-      let b = and-eq-true-iff (allReach shift last t d i n) (isAt (placeOf shift last (pathAt t d i (suc n) .index))) .0 h in
+      let b = and-eq-true-iff (allReach kind needed t d i n) (reached (siteOf kind needed (pathAt t d i (suc n) .index))) .0 h in
       ⊎-elim (λ (e : f ≡ suc n). rw e (b .1)) (λ (e : f < suc n). reach-each n (b .0) f l (le-of-suc-le-suc e)) (eq-or-lt-of-le k)
 
-  pub reach-all : (n : ℕ) → ((f : ℕ) → 1 ≤ f → f ≤ n → InReach f) → allReach shift last t d i n ≡ true
+  pub reach-all : (n : ℕ) → ((f : ℕ) → 1 ≤ f → f ≤ n → InReach f) → allReach kind needed t d i n ≡ true
   unfolding allReach
   reach-all zero h = refl
   reach-all (suc n) h = rw (reach-all n (λ f l k. h f l (omega arith)), h (suc n) (omega arith) (omega arith))

@@ -10,22 +10,23 @@ use Rattle.state.specs.declared.State.{State}
 use Rattle.sizes.specs.declared.Size.{Size}
 use Rattle.sizes.specs.Sizes.{framesOf}
 use Rattle.state.specs.Record.{pointsIn, maxInputOf, isState}
-use Rattle.state.proofs.Points.{points-few}
+use Rattle.kinds.specs.Kinds.{kindHolds, tableOf}
+use Rattle.kinds.proofs.Laws.{points-few}
 use Rattle.error.proofs.Ladder.{both}
 use Rattle.sizes.proofs.Read.{max-small}
 use Rattle.state.proofs.Valid.{valid}
 use Rattle.channel.specs.Mask.{maskFits}
-use Rattle.plan.specs.Plan.{readOf, strideOf, workHolds, shareHolds, shapeHolds}
+use Rattle.plan.specs.Plan.{readOf, strideOf, workHolds, tableHolds, shareHolds, shapeHolds}
 
 -- ---- sizes of the working area, which a usize holds
 pub stride-is : (s : State) (z : Size) (n l : ℕ) → z ≡ maxInputOf s → n ≡ framesOf z → l ≡ pointsIn s → n + 2 * l ≡ strideOf s
 stride-is s z n l a b c = rw (b, a, c)
 
-pub stride-small : (s : State) → strideOf s ≤ 66048
-stride-small s = omega (arith, points-few (s .degree), max-small (s .fixed) (pointsIn s) (s .chunk0) (s .original) (s .m))
+pub stride-small : (s : State) → kindHolds (s .kind) ≡ true → strideOf s ≤ 66048
+stride-small s k = omega (arith, points-few (s .kind) k, max-small (s .fixed) (pointsIn s) (s .chunk0) (s .original) (s .m))
 
 pub work-small : (s : State) → isState s ≡ true → s .channels * strideOf s ≤ 16 * 66048
-work-small s h = mul-le-mul (valid s h .channels-few) (stride-small s)
+work-small s h = mul-le-mul (valid s h .channels-few) (stride-small s (valid s h .kind-holds))
 
 -- ---- one share of a lent area
 pub record Shared (channels area frames : ℕ) : Type 0 where
@@ -41,11 +42,13 @@ shared s area frames h =
     }
 
 -- ---- the three areas of a block
-pub shape-is : (s : State) (frames mask input output work read : ℕ) (a b c d : Bool) → read ≡ readOf s frames → a ≡ shareHolds s input read → b ≡ shareHolds s output (s .output)
-    → c ≡ workHolds s work → d ≡ maskFits mask (s .channels) → (a && b && c && d) ≡ shapeHolds s frames mask input output work
-shape-is s frames mask input output work read a b c d r e f g h = rw (e, f, g, h, r)
+pub shape-is : (s : State) (frames mask table input output work read : ℕ) (a b c g d : Bool) → read ≡ readOf s frames → a ≡ shareHolds s input read → b ≡ shareHolds s output (s .output)
+    → c ≡ workHolds s work → g ≡ tableHolds s table → d ≡ maskFits mask (s .channels) → (a && b && c && g && d) ≡ shapeHolds s frames mask table input output work
+shape-is s frames mask table input output work read a b c g d r e f h k l = rw (e, f, h, k, l, r)
 
-pub record Shaped (s : State) (frames input output work : ℕ) : Type 0 where
+pub record Shaped (s : State) (frames table input output work : ℕ) : Type 0 where
+  pub kind-holds : kindHolds (s .kind) ≡ true
+  pub table-long : table ≡ tableOf (s .kind)
   pub channels-few : s .channels ≤ 16
   pub input-few : s .input ≤ 65536
   pub read-in : Shared (s .channels) input (readOf s frames)
@@ -55,13 +58,16 @@ pub record Shaped (s : State) (frames input output work : ℕ) : Type 0 where
   pub fill-fits : s .fill + 2 * pointsIn s ≤ strideOf s
   pub input-fits : 2 * pointsIn s + s .input ≤ strideOf s
 
-pub shaped : (s : State) (frames mask input output work : ℕ) → isState s ≡ true → shapeHolds s frames mask input output work ≡ true → Shaped s frames input output work
-shaped s frames mask input output work h k =
+pub shaped : (s : State) (frames mask table input output work : ℕ) → isState s ≡ true → shapeHolds s frames mask table input output work ≡ true → Shaped s frames table input output work
+shaped s frames mask table input output work h k =
     let v = valid s h in
-    let b3 = both _ _ k in
+    let b4 = both _ _ k in
+    let b3 = both (shareHolds s input (readOf s frames) && shareHolds s output (s .output) && workHolds s work) (tableHolds s table) (b4 .0) in
     let b2 = both (shareHolds s input (readOf s frames) && shareHolds s output (s .output)) (workHolds s work) (b3 .0) in
     let b1 = both (shareHolds s input (readOf s frames)) (shareHolds s output (s .output)) (b2 .0) in
     record {
+      kind-holds = v .kind-holds;
+      table-long = eqb-true table (tableOf (s .kind)) (b3 .1);
       channels-few = v .channels-few;
       input-few = v .input-few;
       read-in = shared s input (readOf s frames) (b1 .0);
@@ -73,7 +79,7 @@ shaped s frames mask input output work h k =
     }
 
 -- ---- what the second pass asks; stride, l and read are what the code worked out, and `long` is the working area's length after each step
-module _ (s : State) (frames input output work : ℕ) (z : Shaped s frames input output work) (stride l : ℕ) (a : stride ≡ strideOf s) (b : l ≡ pointsIn s) where
+module _ (s : State) (frames table input output work : ℕ) (z : Shaped s frames table input output work) (stride l : ℕ) (a : stride ≡ strideOf s) (b : l ≡ pointsIn s) where
   pub move-asks : (long : ℕ) → long ≡ work → (s .channels * stride ≡ long) × (s .fill + 2 * l ≤ stride)
   move-asks long e = rw (a, b, e) (z .long, z .fill-fits)
 
@@ -84,8 +90,9 @@ module _ (s : State) (frames input output work : ℕ) (z : Shaped s frames input
       rw (a, b, e, f, g) ((z .long, omega (arith, z .read-in .whole), omega (arith, z .channels-few)), (omega (arith, z .read-in .enough), z .read-most, z .input-fits))
 
   pub run-asks : (long to : ℕ) → long ≡ work → to ≡ 0
-      → ((s .input ≤ 65536) × (s .channels ≤ 16))
+      → ((kindHolds (s .kind) ≡ true) × (table ≡ tableOf (s .kind)))
+      × (((s .input ≤ 65536) × (s .channels ≤ 16))
       × (((s .channels * stride ≡ long) × (s .channels * (output / s .channels) ≡ output))
-      × ((to + s .output ≤ output / s .channels) × (2 * pointsIn s + s .input ≤ stride)))
+      × ((to + s .output ≤ output / s .channels) × (2 * pointsIn s + s .input ≤ stride))))
   run-asks long to e f =
-      rw (a, e, f) ((z .input-few, z .channels-few), ((z .long, z .written-out .whole), (omega (arith, z .written-out .enough), z .input-fits)))
+      rw (a, e, f) ((z .kind-holds, z .table-long), ((z .input-few, z .channels-few), ((z .long, z .written-out .whole), (omega (arith, z .written-out .enough), z .input-fits))))

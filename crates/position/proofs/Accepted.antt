@@ -10,7 +10,6 @@ use Rattle.exact.specs.Doubles.{_-f_, _/f_, count, zeroF}
 use Rattle.exact.specs.Whole.{_⊕_, AtMost, Below}
 use Rattle.exact.specs.Exact.{exact, Number}
 use Rattle.error.specs.Refusals.{given}
-use Rattle.asynchro_fast.specs.declared.PolynomialDegree.{PolynomialDegree}
 use Rattle.sizes.specs.declared.Size.the-variants.{Frames}
 use Rattle.sizes.specs.declared.FixedAsync.{FixedAsync}
 use Rattle.sizes.specs.declared.FixedAsync.the-variants.{Input, Output}
@@ -18,11 +17,13 @@ use Rattle.state.specs.declared.State.{State}
 use Rattle.sizes.specs.Bounds.{isSize}
 use Rattle.sizes.specs.Sizes.{neededInput, neededOutput, framesOf, isFrames, sizeHolds}
 use Rattle.state.specs.Record.{pointsIn, stepNow, stepThen, inputOf, outputOf, maxInputOf, isState, withSizes, updateLengths}
-use Rattle.state.proofs.Points.{points-few}
+use Rattle.kinds.specs.Kinds.{kindHolds}
+use Rattle.kinds.proofs.Laws.{points-few}
+use Rattle.state.proofs.Checked.{check-accepted}
 use Rattle.state.proofs.Valid.{valid}
 use Rattle.error.proofs.Ladder.{accepted, same-given}
 use Rattle.path.specs.Path.{pathAt}
-use Rattle.path.specs.Places.{shiftOf, lastOf, allReach}
+use Rattle.path.specs.Sites.{allReach}
 use Rattle.plan.specs.Plan.{shapeHolds, incrementOf, reachHolds, afterBlock, planned}
 use Rattle.position.specs.Position.{rampOf}
 use Rattle.position.proofs.Amounts.{looser}
@@ -46,11 +47,11 @@ pub record Passed (s t : State) : Type 0 where
   pub reach : reachHolds s ≡ true
   pub left : t ≡ withSizes (afterBlock s) (framesOf (inputOf (afterBlock s))) (framesOf (outputOf (afterBlock s)))
 
-pub passed : (s t : State) (frames mask a b w : ℕ) → planned s frames mask a b w ≡ given t → Passed s t
+pub passed : (s t : State) (frames mask table a b w : ℕ) → planned s frames mask table a b w ≡ given t → Passed s t
 unfolding planned
-passed s t frames mask a b w e =
-    let p = accepted (isState s) _ _ _ t e in
-    let q = accepted (shapeHolds s frames mask a b w) _ _ _ t (p .1) in
+passed s t frames mask table a b w e =
+    let p = check-accepted s _ t e in
+    let q = accepted (shapeHolds s frames mask table a b w) _ _ _ t (p .1) in
     let r = accepted (reachHolds s) _ _ _ t (q .1) in
     record { state = p .0; reach = r .0; left = sizes-given (afterBlock s) t (r .1) }
 
@@ -62,10 +63,6 @@ none-of Input l c n i t u hl h hc p q a b e z =
     let k = count-is (isSize c) c n e in
     (subst (λ (x : ℕ). 1 ≤ x) k h, subst (λ (x : ℕ). AtMost (x * 2 ^ 1074, 0) (exact binary64 i ⊕ (1300 * 2 ^ 1074, 0))) k (none-ahead l c i t u hl hc p q a b z))
 none-of Output l c n i t u hl h hc p q a b e z = let k = count-is (isSize c) c 0 z in absurd (omega arith)
-
--- ---- any degree's neighbours begin at most 512 before the index
-shift-few : (d : PolynomialDegree) → shiftOf d ≤ 512
-shift-few d = omega (arith, points-few d)
 
 more : (n c w : ℕ) (t d i y : Float) → Moved n c 0 t d i y → Moved n c w t d i y
 more n c w t d i y m = record { number = m .number; inside = m .inside; near = looser _ _ _ _ (above _ w) (m .near) }
@@ -92,24 +89,20 @@ module _ (s : State) (q : Double (s .index)) (h : isState s ≡ true) where
   MovedBy n d = Moved n (s .input) (cond (eq d zeroF) 0 (n * (n + 1) * 2 ^ 1028)) (stepNow s) d (s .index) (pathAt (stepNow s) d (s .index) n .index -f count (s .input))
 
   abbrev ReachBy : ℕ → Float → Type 0
-  ReachBy n d = allReach (shiftOf (s .degree)) (lastOf (s .degree) (s .input)) (stepNow s) d (s .index) n ≡ true
+  ReachBy n d = allReach (s .kind) (s .input) (stepNow s) d (s .index) n ≡ true
 
   moved-none : (d : Float) → outputOf s ≡ Frames 0 → MovedBy 0 d
   unfolding pathAt
   moved-none d e =
       let v = valid s h in
       let z = none-of (s .fixed) (pointsIn s) (s .chunk) (s .input) (s .index) (stepNow s) (stepThen s)
-      (points-few (s .degree)) (v .chunk-some) (le-trans (v .chunk-most) (v .chunk0-few)) (index .0) (index .1) now then (v .input-is) e in
+      (points-few (s .kind) (v .kind-holds)) (v .chunk-some) (le-trans (v .chunk-most) (v .chunk0-few)) (index .0) (index .1) now then (v .input-is) e in
       more 0 (s .input) (cond (eq d zeroF) 0 (0 * (0 + 1) * 2 ^ 1028)) (stepNow s) d (s .index) (s .index -f count (s .input))
       (block-none (s .input) (stepNow s) d (s .index) (z .0) (v .input-few) (index .0) (index .1) (z .1))
 
   moved-some : (n : ℕ) → 0 < n → n ≤ 65536 → ReachBy n ((stepThen s -f stepNow s) /f count n) → MovedBy n ((stepThen s -f stepNow s) /f count n)
   moved-some n p l r =
-      block-some (shiftOf (s .degree)) (lastOf (s .degree) (s .input)) n (s .input) (stepNow s) (stepThen s) (s .index) now then (index .0) (index .1) p l (valid s h .input-few)
-      (shift-few (s .degree)) (last-few (pointsIn s) (s .input) (points-few (s .degree))) r
-    where
-      last-few : (l c : ℕ) → l ≤ 256 → l + c ≤ 256 + c
-      last-few l c h = omega arith
+      block-some (s .kind) (valid s h .kind-holds) n (s .input) (stepNow s) (stepThen s) (s .index) now then (index .0) (index .1) p l (valid s h .input-few) r
 
   moved-by : (n : ℕ) → outputOf s ≡ Frames n → n ≤ 65536 → ReachBy n (incAt n) → MovedBy n (incAt n)
   moved-by zero e l r = moved-none (incAt 0) e

@@ -14,8 +14,11 @@ use Rattle.exact.specs.Running.{run, walk, tri}
 use Rattle.exact.proofs.Order.{eq-exact}
 use Rattle.exact.proofs.Running.{tri-is, walk-within}
 use Rattle.path.specs.Path.{pathAt}
-use Rattle.path.specs.Places.{allReach}
-use Rattle.path.proofs.Bounds.{Placed, reach-placed}
+use Rattle.kinds.specs.declared.Kind.{Kind}
+use Rattle.kinds.specs.Kinds.{pointsOf, kindHolds}
+use Rattle.kinds.proofs.Laws.{points-few}
+use Rattle.path.specs.Sites.{allReach}
+use Rattle.path.proofs.Inside.{Inside, reach-inside}
 use Rattle.position.proofs.Amounts.{zero-exact, count-exact, sub-of}
 use Rattle.position.proofs.Tests.{holds}
 use Rattle.position.proofs.Steps.{Pace, Step, increment-near, steps-near}
@@ -68,13 +71,13 @@ block-none c t d i s l p h k =
     start K i t d = omega arith
 
 -- ---- a block of some frames: Reach bounds each index on the way
--- x lies in the working area, from -shift on and below last - shift + 1
-module _ (U shift last c : ℕ) (x : Whole) (P : 0 < U) (ls : shift ≤ 512) (ll : last ≤ 256 + c) (lc : c ≤ 65536) (least : AtMost (0, shift * U) x) (below : Less x ((last + 1) * U, shift * U)) where
+-- x lies from -(2l + 1) on and below c + 1, with l points
+module _ (U l c : ℕ) (x : Whole) (P : 0 < U) (ls : 2 * l + 1 ≤ 513) (lc : c ≤ 65536) (least : AtMost (0, (2 * l + 1) * U) x) (below : Less x ((c + 1) * U, 0)) where
   place-below : Below (131072 * U) x
-  place-below = omega (arith, mul-le-mul-right U ls, mul-le-mul-right U ll, mul-le-mul-right U lc)
+  place-below = omega (arith, mul-le-mul-right U ls, mul-le-mul-right U lc)
 
   place-taken : Below (131071 * U) (x ⊖ (c * U, 0))
-  place-taken = omega (arith, mul-le-mul-right U ls, mul-le-mul-right U ll, mul-le-mul-right U lc)
+  place-taken = omega (arith, mul-le-mul-right U ls, mul-le-mul-right U lc)
 
 step-below : (h : ℕ) (t : Whole) → Pace h t → Below (131072 * (2 ^ 46 * h)) t
 step-below h t a = omega arith
@@ -82,9 +85,9 @@ step-below h t a = omega arith
 ramp-is : (n h : ℕ) → tri n * (2 * h) ≡ n * (n + 1) * h
 ramp-is n h = omega (arith, ap (λ (x : ℕ). x * h) (tri-is n))
 
-module _ (shift last n c : ℕ) (t u i : Float) (a : Step t) (b : Step u) (p : Number binary64 i) (q : Below (2 ^ 1091) (exact binary64 i))
-    (some : 0 < n) (ln : n ≤ 65536) (lc : c ≤ 65536) (ls : shift ≤ 512) (ll : last ≤ 256 + c)
-    (reach : allReach shift last t ((u -f t) /f count n) i n ≡ true) where
+module _ (k : Kind) (holds-kind : kindHolds k ≡ true) (n c : ℕ) (t u i : Float) (a : Step t) (b : Step u) (p : Number binary64 i) (q : Below (2 ^ 1091) (exact binary64 i))
+    (some : 0 < n) (ln : n ≤ 65536) (lc : c ≤ 65536)
+    (reach : allReach k c t ((u -f t) /f count n) i n ≡ true) where
   abbrev inc : Float
   inc = (u -f t) /f count n
 
@@ -92,15 +95,19 @@ module _ (shift last n c : ℕ) (t u i : Float) (a : Step t) (b : Step u) (p : N
   abbrev at : ℕ → Float
   at j = walk binary64 j i t inc
 
-  frame : (j : ℕ) → suc j ≤ n → Placed shift last (at (suc j))
-  frame j l = subst (Placed shift last) (path-index t inc i (suc j)) (reach-placed shift last t inc i n reach (suc j) (zero-lt-suc j) l)
+  -- 2L + 1 is small
+  few : 2 * pointsOf k + 1 ≤ 513
+  few = omega (arith, points-few k holds-kind)
+
+  frame : (j : ℕ) → suc j ≤ n → Inside (pointsOf k) c (at (suc j))
+  frame j l = subst (Inside (pointsOf k) c) (path-index t inc i (suc j)) (reach-inside k holds-kind c t inc i n reach (suc j) (zero-lt-suc j) l)
 
   stays : (j : ℕ) → j ≤ n → Number binary64 (at j) × Below (2 ^ 1091) (exact binary64 (at j))
   unfolding walk
   stays zero l = (p, q)
   stays (suc j) l =
       let w = frame j l in
-      (w .number, place-below (2 ^ 1074) shift last c (exact binary64 (at (suc j))) (pow-pos 1074) ls ll lc (w .atLeast) (w .below))
+      (w .number, place-below (2 ^ 1074) (pointsOf k) c (exact binary64 (at (suc j))) (pow-pos 1074) few lc (w .atLeast) (w .below))
 
   -- the last index is at most n slacks, and w, away from the exact one
   abbrev Ends : ℕ → Type 0
@@ -122,7 +129,7 @@ module _ (shift last n c : ℕ) (t u i : Float) (a : Step t) (b : Step u) (p : N
   last-taken zero h l = absurd (lt-irrefl 0 h)
   last-taken (suc j) h l =
       let w = frame j l in
-      (w .number, place-taken (2 ^ 1074) shift last c (exact binary64 (at (suc j))) (pow-pos 1074) ls ll lc (w .atLeast) (w .below))
+      (w .number, place-taken (2 ^ 1074) (pointsOf k) c (exact binary64 (at (suc j))) (pow-pos 1074) few lc (w .atLeast) (w .below))
 
   abbrev ramps : ℕ
   ramps = cond (eq inc zeroF) 0 (n * (n + 1) * 2 ^ 1028)

@@ -18,22 +18,23 @@ use Rattle.sizes.specs.Sizes.{startOf, sizeOf, neededInput, neededOutput, maxIn
 use Rattle.state.specs.Record.{isState, updateLengths}
 use Rattle.asynchro.specs.Calls.{construct, firstLengths}
 use Rattle.path.specs.Path.{pathAt}
-use Rattle.path.specs.Places.{placeFrom, allReach}
+use Rattle.path.specs.Places.{placeFrom}
+use Rattle.path.specs.Sites.{allReach}
 use Rattle.plan.specs.Plan.{planned}
 use Rattle.position.specs.History.{Start, constructed, Call, ratio, block}
 use Rattle.position.specs.Position.{opened, Ledger, ledger, stored}
 
 -- the record that the construction gives
 abbrev pub made : State
-made = record { channels = 1; chunk = 4; chunk0 = 4; input = 5; output = 4; fill = 5; index = startOf 2; original = oneF; current = oneF; target = oneF; now = oneF; then = oneF; m = twoF; degree = Linear; fixed = Output }
+made = record { channels = 1; chunk = 4; chunk0 = 4; input = 5; output = 4; fill = 5; index = startOf 2; original = oneF; current = oneF; target = oneF; now = oneF; then = oneF; m = twoF; kind = Polynomial Linear; fixed = Output }
 
 pub made-start : Start made
 unfolding construct firstLengths updateLengths unless sizeOf neededInput neededOutput maxInput maxOutput madeWhole ofBits ofInt add sub mul div neg round lt eq le fits
-made-start = constructed oneF twoF Linear 4 1 Output made refl
+made-start = constructed oneF twoF (Polynomial Linear) 4 1 Output made refl
 
 unfoldable pub calls : List Call
 unfolding ofBits fits
-calls = ratio halfF true ∷ block 8 1 (replicate 8 zeroF) (replicate 4 zeroF) (replicate 15 zeroF) ∷ []
+calls = ratio halfF true ∷ block 8 1 [] (replicate 8 zeroF) (replicate 4 zeroF) (replicate 15 zeroF) ∷ []
 
 abbrev pub case6 : Ledger
 case6 = ledger made (opened made) calls

@@ -12,12 +12,12 @@ use Rattle.plan.proofs.Keeps.{block-keeps}
 use Rattle.position.proofs.Tests.{Double, index-is}
 use Rattle.position.proofs.Accepted.{Passed, passed, moved}
 
-module _ (s t : State) (frames mask input output work : ℕ) (d : Double (s .index)) (e : planned s frames mask input output work ≡ given t) where
+module _ (s t : State) (frames mask table input output work : ℕ) (d : Double (s .index)) (e : planned s frames mask table input output work ≡ given t) where
   abbrev known : Passed s t
-  known = passed s t frames mask input output work e
+  known = passed s t frames mask table input output work e
 
   after-inside : isIndex (afterBlock s .index) ≡ true
   after-inside = let m = moved s d (known .state) (known .reach) in is-true _ (index-is (afterBlock s .index) (m .number) (m .inside))
 
   pub block-leaves-state : isState t ≡ true
-  block-leaves-state = block-keeps s t frames mask input output work after-inside e
+  block-leaves-state = block-keeps s t frames mask table input output work after-inside e

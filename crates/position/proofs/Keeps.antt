@@ -13,7 +13,9 @@ use Rattle.error.specs.Refusals.{Said, given, refused}
 use Rattle.state.specs.declared.State.{State}
 use Rattle.sizes.specs.Bounds.{isRatio, isChannels}
 use Rattle.sizes.specs.Sizes.{startOf}
-use Rattle.state.specs.Record.{pointsIn, maximaHold, isState, updateLengths}
+use Rattle.kinds.specs.Kinds.{kindHolds}
+use Rattle.state.specs.Record.{pointsIn, maximaHold, updateLengths}
+use Rattle.state.proofs.Checked.{check-accepted}
 use Rattle.asynchro.specs.Calls.{endOf, freshState, withFill, filled, firstLengths, construct, relativeHolds, withRatio, applied, setRatio, setRelative, withChunk, chunked, setChunk}
 use Rattle.error.proofs.Ladder.{accepted, same-given}
 use Rattle.plan.specs.Plan.{workHolds, indexAfter, restored, resetting}
@@ -33,7 +35,7 @@ end-index s (refused n vs) k = refl
 
 applied-index : (s t : State) (ok : Bool) (r : Float) (ramp : Bool) → applied s ok r ramp ≡ given t → t .index ≡ s .index
 applied-index s t ok r ramp e =
-    let a = accepted (isState s) _ _ _ t e in
+    let a = check-accepted s _ t e in
     let b = accepted ok _ _ _ t (a .1) in
     let c = accepted (isRatio r) _ _ _ t (b .1) in
     ended (withRatio s r ramp) t (c .1)
@@ -47,7 +49,7 @@ relative-index s rel ramp =
 
 pub chunk-index : (s : State) (n : ℕ) → setChunk s n .state .index ≡ s .index
 chunk-index s n = end-index s (chunked s n) (λ t e.
-    let a = accepted (isState s) _ _ _ t e in
+    let a = check-accepted s _ t e in
     let b = accepted (leb 1 n && leb n (s .chunk0)) _ _ _ t (a .1) in
     ended (withChunk s n) t (b .1))
 
@@ -72,9 +74,10 @@ reset-index s work (refused n vs) i k e = absurd (never n vs tt e)
 
 pub start-index : (s : State) → Start s → Double (s .index)
 unfolding construct firstLengths resetting
-start-index s (constructed r m degree c channels fixed s′ e) =
-    let f = freshState r m degree c channels fixed in
-    let k1 = accepted (aboveZero r) _ _ _ s′ e in
+start-index s (constructed r m kind c channels fixed s′ e) =
+    let f = freshState r m kind c channels fixed in
+    let k0 = accepted (kindHolds kind) _ _ _ s′ e in
+    let k1 = accepted (aboveZero r) _ _ _ s′ (k0 .1) in
     let k2 = accepted (atLeastOne m) _ _ _ s′ (k1 .1) in
     let k3 = accepted (leb 1 c) _ _ _ s′ (k2 .1) in
     let k5 = accepted (isRatio r) _ _ _ s′ (k3 .1) in
@@ -83,7 +86,7 @@ start-index s (constructed r m degree c channels fixed s′ e) =
     subst Double (sym (filled-index (updateLengths f) s′ (startOf (pointsIn f)) (ended f) (k6 .1))) (start-double (pointsIn f))
 start-index s (restarted s′ work e) =
     let i = reset-index s′ work (resetting s′ (length work)) (startOf (pointsIn s′)) (λ t g.
-    let a = accepted (isState s′) _ _ _ t g in
+    let a = check-accepted s′ _ t g in
     let b = accepted (workHolds s′ (length work)) _ _ _ t (a .1) in
     ended (restored s′) t (b .1)) e in
     subst Double (sym i) (start-double (pointsIn s′))

@@ -52,17 +52,17 @@ given-near s t a n p =
           (a .exactly) (exact binary64 (s .index)) (exact binary64 (afterBlock s .index)) (exactMove s (s .output)) (n .near) (m .near));
     }
 
-block-near : (s : State) (a : Account) (frames mask : ℕ) (input output work : List Float) (r : Said State) → planned s frames mask (length input) (length output) (length work) ≡ r → Near s a
-    → Near (blockEnd s frames mask input output work r .state) (added s a (blockEnd s frames mask input output work r .said))
-block-near s a frames mask input output work (given t) e n = given-near s t a n (passed s t frames mask (length input) (length output) (length work) e)
-block-near s a frames mask input output work (refused k vs) e n = n
+block-near : (s : State) (a : Account) (frames mask : ℕ) (table input output work : List Float) (r : Said State) → planned s frames mask (length table) (length input) (length output) (length work) ≡ r → Near s a
+    → Near (blockEnd s frames mask table input output work r .state) (added s a (blockEnd s frames mask table input output work r .said))
+block-near s a frames mask table input output work (given t) e n = given-near s t a n (passed s t frames mask (length table) (length input) (length output) (length work) e)
+block-near s a frames mask table input output work (refused k vs) e n = n
 
 -- ---- one call, and any calls
 pub call-near : (s : State) (a : Account) (c : Call) → Near s a → Near (leftBy s c) (accounted s a c)
 call-near s a (ratio r ramp) n = set-near s _ a n (ratio-index s r ramp)
 call-near s a (relative rel ramp) n = set-near s _ a n (relative-index s rel ramp)
 call-near s a (chunk k) n = set-near s _ a n (chunk-index s k)
-call-near s a (block frames mask input output work) n = block-near s a frames mask input output work _ refl n
+call-near s a (block frames mask table input output work) n = block-near s a frames mask table input output work _ refl n
 
 pub calls-near : (s : State) (a : Account) (cs : List Call) → Near s a → Near (ledger s a cs .state) (ledger s a cs .account)
 unfolding ledger

@@ -46,7 +46,7 @@ abbrev pub accounted : State → Account → Call → Account
 accounted s a (ratio r ramp) = a
 accounted s a (relative rel ramp) = a
 accounted s a (chunk n) = a
-accounted s a (block frames mask input output work) = added s a (blockOf s frames mask input output work .said)
+accounted s a (block frames mask table input output work) = added s a (blockOf s frames mask table input output work .said)
 
 -- the record and the account after the calls, in order
 pub record Ledger : Type 0 where

@@ -12,6 +12,7 @@ use Rattle.state.specs.declared.Made.{Made}
 use Rattle.state.specs.declared.Made.the-variants as made
 use Rattle.asynchro.specs.declared.Done.the-variants as done
 use Rattle.state.specs.Record.{pointsIn, stepNow, isState, saidMade}
+use Rattle.state.proofs.Checked.{check-accepted}
 use Rattle.error.proofs.Ladder.{accepted}
 use Rattle.area.specs.Moves.{movedAll, loadedAll}
 use Rattle.frames.specs.Run.{ranAll}
@@ -20,7 +21,7 @@ use Rattle.plan.specs.Plan.{readOf, strideOf, shapeHolds, incrementOf, planned,
 use Rattle.process.specs.Block.{workAfter, outputAfter, sizesOf, blockEnd, blockOf, blockLeft, resetEnd, resetOf, resetLeft}
 
 -- ---- the second pass: the working area, then the output on it
-module _ (s : State) (frames mask : ℕ) (input : List Float) (at : ℕ) (work : List Float) where
+module _ (s : State) (frames mask : ℕ) (table input : List Float) (at : ℕ) (work : List Float) where
   work-is : (stride l read : ℕ) (moved loaded : List Float) → stride ≡ strideOf s → l ≡ pointsIn s → read ≡ readOf s frames
       → moved ≡ movedAll (s .fill) (2 * l) stride (s .channels) work
       → loaded ≡ loadedAll mask (2 * l) input (length input / s .channels) at read (s .input) stride (s .channels) moved → loaded ≡ workAfter s frames mask input at work
@@ -30,28 +31,28 @@ module _ (s : State) (frames mask : ℕ) (input : List Float) (at : ℕ) (work :
   pub written : (to : ℕ) (output : List Float) (stride l read : ℕ) (moved loaded out : List Float) (t d : Float) → stride ≡ strideOf s → l ≡ pointsIn s → read ≡ readOf s frames
       → moved ≡ movedAll (s .fill) (2 * l) stride (s .channels) work
       → loaded ≡ loadedAll mask (2 * l) input (length input / s .channels) at read (s .input) stride (s .channels) moved → t ≡ stepNow s → d ≡ incrementOf s
-      → out ≡ ranAll (s .degree) (s .input) mask loaded stride t d (s .index) (s .output) to (length output / s .channels) (s .channels) output
-      → (loaded ≡ workAfter s frames mask input at work) × (out ≡ outputAfter s mask (workAfter s frames mask input at work) to output)
+      → out ≡ ranAll (s .kind) table (s .input) mask loaded stride t d (s .index) (s .output) to (length output / s .channels) (s .channels) output
+      → (loaded ≡ workAfter s frames mask input at work) × (out ≡ outputAfter s mask table (workAfter s frames mask input at work) to output)
   unfolding outputAfter
   written to output stride l read moved loaded out t d a b c e f g h k =
       let w = work-is stride l read moved loaded a b c e f in
       (w, rw (k, a, g, h, w))
 
 -- ---- the block's two ways out
-module _ (s : State) (frames mask : ℕ) (input output work : List Float) (m : Made) (e : saidMade m ≡ planned s frames mask (length input) (length output) (length work)) where
-  pub block-refused : (r : Refusal) → m ≡ made.Refused r → blockLeft (record { state = s; answer = ran.Refused r }) output work ≡ blockOf s frames mask input output work
-  block-refused r h = ap (blockEnd s frames mask input output work) (ap saidMade (sym h) ∙ e)
+module _ (s : State) (frames mask : ℕ) (table input output work : List Float) (m : Made) (e : saidMade m ≡ planned s frames mask (length table) (length input) (length output) (length work)) where
+  pub block-refused : (r : Refusal) → m ≡ made.Refused r → blockLeft (record { state = s; answer = ran.Refused r }) output work ≡ blockOf s frames mask table input output work
+  block-refused r h = ap (blockEnd s frames mask table input output work) (ap saidMade (sym h) ∙ e)
 
-  pub block-ran : (t : State) (out left : List Float) → m ≡ made.Ready t → left ≡ workAfter s frames mask input 0 work → out ≡ outputAfter s mask (workAfter s frames mask input 0 work) 0 output
-      → blockLeft (record { state = t; answer = ran.Used (sizesOf s) }) out left ≡ blockOf s frames mask input output work
-  block-ran t out left h a b = rw (a, b) (ap (blockEnd s frames mask input output work) (ap saidMade (sym h) ∙ e))
+  pub block-ran : (t : State) (out left : List Float) → m ≡ made.Ready t → left ≡ workAfter s frames mask input 0 work → out ≡ outputAfter s mask table (workAfter s frames mask input 0 work) 0 output
+      → blockLeft (record { state = t; answer = ran.Used (sizesOf s) }) out left ≡ blockOf s frames mask table input output work
+  block-ran t out left h a b = rw (a, b) (ap (blockEnd s frames mask table input output work) (ap saidMade (sym h) ∙ e))
 
   -- a record to come: the tests of the first pass hold
-  pub block-tests : (t : State) → m ≡ made.Ready t → (isState s ≡ true) × (shapeHolds s frames mask (length input) (length output) (length work) ≡ true)
+  pub block-tests : (t : State) → m ≡ made.Ready t → (isState s ≡ true) × (shapeHolds s frames mask (length table) (length input) (length output) (length work) ≡ true)
   unfolding planned
   block-tests t h =
-      let a = accepted (isState s) _ _ _ t (sym e ∙ ap saidMade h) in
-      let b = accepted (shapeHolds s frames mask (length input) (length output) (length work)) _ _ _ t (a .1) in
+      let a = check-accepted s _ t (sym e ∙ ap saidMade h) in
+      let b = accepted (shapeHolds s frames mask (length table) (length input) (length output) (length work)) _ _ _ t (a .1) in
       (a .0, b .0)
 
 -- ---- the two ways out of a reset

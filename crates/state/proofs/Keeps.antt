@@ -17,6 +17,6 @@ update-keeps s t r e =
     let b = accepted (isFrames (outputOf s)) _ _ _ t (a .1) in
     let c = accepted (sizeHolds (maxInputOf s) (framesOf (inputOf s))) _ _ _ t (b .1) in
     let z = withSizes s (framesOf (inputOf s)) (framesOf (outputOf s)) in
-    let ready : Ready z = record { counts = r .counts; ratios = r .ratios; steps = r .steps; maxima = r .maxima; fill = r .fill; index = r .index } in
+    let ready : Ready z = record { kind = r .kind; counts = r .counts; ratios = r .ratios; steps = r .steps; maxima = r .maxima; fill = r .fill; index = r .index } in
     let needed : Needed z = record { input = own-size (inputOf s) (a .0); output = own-size (outputOf s) (b .0); input-most = c .0 } in
     subst (λ (y : State). isState y ≡ true) (same-given z t (c .1)) (passes z ready needed)

@@ -1,6 +1,6 @@
 -- Laws of the state record. Assumes nothing.
-pub mod Points
 pub mod Steps
 pub mod Valid
+pub mod Checked
 pub mod Keeps
 pub mod Ends

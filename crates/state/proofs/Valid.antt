@@ -7,6 +7,7 @@ use borrow.Author.Tests.{leb-true}
 use lib.Dec.{leb}
 use Rattle.exact.specs.Doubles.{atLeastOne}
 use Rattle.error.proofs.Ladder.{both, join}
+use Rattle.kinds.specs.Kinds.{kindHolds}
 use Rattle.sizes.specs.declared.Size.the-variants.{Frames}
 use Rattle.state.specs.declared.State.{State}
 use Rattle.sizes.specs.Bounds.{isRatio, isChannels, isChunk, isSize, isIndex}
@@ -17,6 +18,7 @@ use Rattle.state.proofs.Steps.{step-is}
 
 -- ---- the parts of the test: all but the needed sizes, and these
 pub record Ready (s : State) : Type 0 where
+  pub kind : kindHolds (s .kind) ≡ true
   pub counts : countsHold s ≡ true
   pub ratios : ratiosHold s ≡ true
   pub steps : stepsHold s ≡ true
@@ -34,13 +36,14 @@ unfolding isState
 tests s h =
     let all4 = both _ _ h in
     let all3 = both _ _ (all4 .0) in
-    let all2 = both (countsHold s && ratiosHold s && stepsHold s) (maximaHold s) (all3 .0) in
-    let all1 = both (countsHold s && ratiosHold s) (stepsHold s) (all2 .0) in
-    let all0 = both (countsHold s) (ratiosHold s) (all1 .0) in
+    let all2 = both (kindHolds (s .kind) && countsHold s && ratiosHold s && stepsHold s) (maximaHold s) (all3 .0) in
+    let all1 = both (kindHolds (s .kind) && countsHold s && ratiosHold s) (stepsHold s) (all2 .0) in
+    let all0 = both (kindHolds (s .kind) && countsHold s) (ratiosHold s) (all1 .0) in
+    let k = both (kindHolds (s .kind)) (countsHold s) (all0 .0) in
     let z2 = both _ _ (all3 .1) in
     let z1 = both _ _ (z2 .0) in
     let z0 = both (sizeIs (inputOf s) (s .input)) (sizeIs (outputOf s) (s .output)) (z1 .0) in (
-      record { counts = all0 .0; ratios = all0 .1; steps = all1 .1; maxima = all2 .1; fill = z2 .1; index = all4 .1 },
+      record { kind = k .0; counts = k .1; ratios = all0 .1; steps = all1 .1; maxima = all2 .1; fill = z2 .1; index = all4 .1 },
       record { input = z0 .0; output = z0 .1; input-most = z1 .1 },
     )
 
@@ -48,10 +51,11 @@ pub passes : (s : State) → Ready s → Needed s → isState s ≡ true
 unfolding isState
 passes s r n =
     let sizes : sizesHold s ≡ true = join (join (join (n .input) (n .output)) (n .input-most)) (r .fill) in
-    join (join (join (join (join (r .counts) (r .ratios)) (r .steps)) (r .maxima)) sizes) (r .index)
+    join (join (join (join (join (join (r .kind) (r .counts)) (r .ratios)) (r .steps)) (r .maxima)) sizes) (r .index)
 
 -- ---- what the test tells
 pub record Valid (s : State) : Type 0 where
+  pub kind-holds : kindHolds (s .kind) ≡ true
   pub channels-some : 1 ≤ s .channels
   pub channels-few : s .channels ≤ 16
   pub chunk-some : 1 ≤ s .chunk
@@ -95,6 +99,7 @@ valid s h =
     let most = max-small (s .fixed) (pointsIn s) (s .chunk0) (s .original) (s .m) in
     let fill = size-holds (maxInputOf s) (s .fill) (r .fill) in
     record {
+      kind-holds = r .kind;
       channels-some = leb-true 1 (s .channels) (channels .0);
       channels-few = leb-true (s .channels) 16 (channels .1);
       chunk-some = leb-true 1 (s .chunk) (chunk .0);

@@ -30,8 +30,8 @@ module _ (s : State) (frames mask : ℕ) (input input′ output output′ work w
   -- what the two blocks leave that channel
   abbrev pub SameFor : ℕ → Said State → Type 0
   SameFor c p =
-      (partOf (length output / s .channels) c (blockEnd s frames mask input output work p .output) ≡ partOf (length output / s .channels) c (blockEnd s frames mask input′ output′ work′ p .output))
-      × (partOf (strideOf s) c (blockEnd s frames mask input output work p .work) ≡ partOf (strideOf s) c (blockEnd s frames mask input′ output′ work′ p .work))
+      (partOf (length output / s .channels) c (blockEnd s frames mask table input output work p .output) ≡ partOf (length output / s .channels) c (blockEnd s frames mask table input′ output′ work′ p .output))
+      × (partOf (strideOf s) c (blockEnd s frames mask table input output work p .work) ≡ partOf (strideOf s) c (blockEnd s frames mask table input′ output′ work′ p .work))
 
   -- an accepted block
   module _ (h : Shaped s frames (length input) (length output) (length work)) (c : ℕ) (l : c < s .channels) (a : Alike c) where
@@ -53,13 +53,13 @@ module _ (s : State) (frames mask : ℕ) (input input′ output output′ work w
         (run-apart (s .degree) (s .input) mask (strideOf s) (stepNow s) (incrementOf s) (s .index) (s .output) 0 (length output / s .channels) (s .channels) (rw zero-add (h .written-out .enough))
         (workAfter s frames mask input 0 work) (workAfter s frames mask input′ 0 work′) output output′ (le-of-eq (h .written-out .whole)) (le-of-eq (h .written-out .whole ∙ o)) c l work-alike (a .1))
 
-  ends : (c : ℕ) → c < s .channels → Alike c → (p : Said State) → planned s frames mask (length input) (length output) (length work) ≡ p → SameFor c p
+  ends : (c : ℕ) → c < s .channels → Alike c → (p : Said State) → planned s frames mask (length table) (length input) (length output) (length work) ≡ p → SameFor c p
   ends c l a (given t) e =
       let h = shape-of s frames mask (length input) (length output) (length work) t e in
       (output-alike h c l a, work-alike h c l a)
   ends c l a (refused n vs) e = (a .1, a .2)
 
   pub apart : (c : ℕ) → c < s .channels → Alike c
-      → (partOf (length output / s .channels) c (blockOf s frames mask input output work .output) ≡ partOf (length output / s .channels) c (blockOf s frames mask input′ output′ work′ .output))
-      × (partOf (strideOf s) c (blockOf s frames mask input output work .work) ≡ partOf (strideOf s) c (blockOf s frames mask input′ output′ work′ .work))
-  apart c l a = rw (← i, ← o, ← w) (ends c l a (planned s frames mask (length input) (length output) (length work)) refl)
+      → (partOf (length output / s .channels) c (blockOf s frames mask table input output work .output) ≡ partOf (length output / s .channels) c (blockOf s frames mask table input′ output′ work′ .output))
+      × (partOf (strideOf s) c (blockOf s frames mask table input output work .work) ≡ partOf (strideOf s) c (blockOf s frames mask table input′ output′ work′ .work))
+  apart c l a = rw (← i, ← o, ← w) (ends c l a (planned s frames mask (length table) (length input) (length output) (length work)) refl)

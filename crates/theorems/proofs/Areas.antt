@@ -36,7 +36,7 @@ use Rattle.theorems.specs.Block.{indexAt, Frame, shifted, refreshed}
 use Rattle.theorems.proofs.Places.{Found, found}
 
 -- an accepted block's areas have their shape
-pub shape-of : (s : State) (frames mask input output work : ℕ) (t : State) → planned s frames mask input output work ≡ given t → Shaped s frames input output work
+pub shape-of : (s : State) (frames mask input output work : ℕ) (t : State) → planned s frames mask table input output work ≡ given t → Shaped s frames input output work
 unfolding planned
 shape-of s frames mask input output work t e =
     let p = accepted _ _ _ _ _ e in
@@ -85,7 +85,7 @@ module _ (s : State) (frames mask : ℕ) (input output work : List Float) where
   shapes = Shaped s frames (length input) (length output) (length work)
 
   abbrev left : Block Sizes
-  left = blockOf s frames mask input output work
+  left = blockOf s frames mask table input output work
 
   abbrev workThen : List Float
   workThen = workAfter s frames mask input 0 work
@@ -104,19 +104,19 @@ module _ (s : State) (frames mask : ℕ) (input output work : List Float) where
 
   -- what holds of the areas given, and of those that an accepted block leaves, holds of those that every block leaves
   pub every-block : (P : List Float → List Float → Type 0) → P output work → (shapes → P outputThen workThen) → P (left .output) (left .work)
-  every-block P r g = go (planned s frames mask (length input) (length output) (length work)) refl
+  every-block P r g = go (planned s frames mask (length table) (length input) (length output) (length work)) refl
     where
-      go : (p : Said State) → planned s frames mask (length input) (length output) (length work) ≡ p
-          → P (blockEnd s frames mask input output work p .output) (blockEnd s frames mask input output work p .work)
+      go : (p : Said State) → planned s frames mask (length table) (length input) (length output) (length work) ≡ p
+          → P (blockEnd s frames mask table input output work p .output) (blockEnd s frames mask table input output work p .work)
       go (given t) e = g (shape-of s frames mask (length input) (length output) (length work) t e)
       go (refused n vs) e = r
 
   -- what holds of what an accepted block leaves
   pub accepted-block : (P : List Float → List Float → Type 0) (u : Sizes) → left .said ≡ given u → (shapes → reachHolds s ≡ true → P outputThen workThen) → P (left .output) (left .work)
-  accepted-block P u a g = go (planned s frames mask (length input) (length output) (length work)) refl a
+  accepted-block P u a g = go (planned s frames mask (length table) (length input) (length output) (length work)) refl a
     where
-      go : (p : Said State) → planned s frames mask (length input) (length output) (length work) ≡ p → blockEnd s frames mask input output work p .said ≡ given u
-          → P (blockEnd s frames mask input output work p .output) (blockEnd s frames mask input output work p .work)
+      go : (p : Said State) → planned s frames mask (length table) (length input) (length output) (length work) ≡ p → blockEnd s frames mask table input output work p .said ≡ given u
+          → P (blockEnd s frames mask table input output work p .output) (blockEnd s frames mask table input output work p .work)
       go (refused n vs) q a = absurd (let x : _≡_ {A = ℕ} 0 1 = cc in omega arith)
       go (given t) q a =
           g (shape-of s frames mask (length input) (length output) (length work) t q) (passed s t frames mask (length input) (length output) (length work) q .reach)

@@ -11,14 +11,14 @@ use Rattle.process.specs.Block.{blockEnd, blockOf, resetEnd, resetOf}
 
 module _ (s : State) (frames mask : ℕ) (input input′ output output′ work work′ : List Float) where
   -- the end of a block by what was planned
-  ends : (p : Said State) → (blockEnd s frames mask input output work p .state ≡ blockEnd s frames mask input′ output′ work′ p .state)
-      × (blockEnd s frames mask input output work p .said ≡ blockEnd s frames mask input′ output′ work′ p .said)
+  ends : (p : Said State) → (blockEnd s frames mask table input output work p .state ≡ blockEnd s frames mask table input′ output′ work′ p .state)
+      × (blockEnd s frames mask table input output work p .said ≡ blockEnd s frames mask table input′ output′ work′ p .said)
   ends (given t) = (refl, refl)
   ends (refused n vs) = (refl, refl)
 
   pub blind : length input ≡ length input′ → length output ≡ length output′ → length work ≡ length work′
-      → (blockOf s frames mask input output work .state ≡ blockOf s frames mask input′ output′ work′ .state)
-      × (blockOf s frames mask input output work .said ≡ blockOf s frames mask input′ output′ work′ .said)
+      → (blockOf s frames mask table input output work .state ≡ blockOf s frames mask table input′ output′ work′ .state)
+      × (blockOf s frames mask table input output work .said ≡ blockOf s frames mask table input′ output′ work′ .said)
   blind i o w = rw (i, o, w) (ends (planned s frames mask (length input′) (length output′) (length work′)))
 
 -- the same of a reset

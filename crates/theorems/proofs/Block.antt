@@ -18,7 +18,7 @@ use Rattle.theorems.proofs.Areas as areas
 module _ (s : State) (frames mask : ℕ) (input output work : List Float) where
   -- what the block leaves
   abbrev pub left : Block Sizes
-  left = blockOf s frames mask input output work
+  left = blockOf s frames mask table input output work
 
   -- the channel c's share of the input and of an output area, and its part of a working area
   abbrev pub inputIn : ℕ → List Float

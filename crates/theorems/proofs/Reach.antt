@@ -35,35 +35,35 @@ sizes-not-9 s e =
     absurd (let z : _≡_ {A = ℕ} 0 1 = cc in omega arith)
 
 module _ (s : State) (frames mask input output work : ℕ) where
-  planned-9 : planned s frames mask input output work ≡ refused 9 [] → (isState s ≡ true) × (shapeHolds s frames mask input output work ≡ true) × (reachHolds s ≡ false)
+  planned-9 : planned s frames mask table input output work ≡ refused 9 [] → (isState s ≡ true) × (shapeHolds s frames mask table input output work ≡ true) × (reachHolds s ≡ false)
   unfolding planned unless
   planned-9 e =
       let a = rung (isState s) 10 9 _ (λ z. omega arith) e in
-      let b = rung (shapeHolds s frames mask input output work) 8 9 _ (λ z. omega arith) (a .1) in
+      let b = rung (shapeHolds s frames mask table input output work) 8 9 _ (λ z. omega arith) (a .1) in
       (a .0, b .0, go (reachHolds s) (afterBlock s) (b .1))
     where
       go : (r : Bool) (d : State) → unless r 9 [] (updateLengths d) ≡ refused 9 [] → r ≡ false
       go false d e = refl
       go true d e = absurd (sizes-not-9 d e)
 
-  nine-planned : (isState s ≡ true) × (shapeHolds s frames mask input output work ≡ true) × (reachHolds s ≡ false) → planned s frames mask input output work ≡ refused 9 []
+  nine-planned : (isState s ≡ true) × (shapeHolds s frames mask table input output work ≡ true) × (reachHolds s ≡ false) → planned s frames mask table input output work ≡ refused 9 []
   unfolding planned
   nine-planned h = sym (pass _ _ _ _ _ (h .0) (pass _ _ _ _ _ (h .1) (stop _ _ _ _ (h .2))))
 
 -- ---- the block is refused 9 exactly when 10 and 8 are not given and some frame's neighbours lie outside. `fits binary64` says that the index is a double, as every f64 of the code is
 module _ (s : State) (frames mask : ℕ) (input output work : List Float) where
-  said-refused : (p : Said State) (n : ℕ) (vs : List Float) → blockEnd s frames mask input output work p .said ≡ refused n vs → p ≡ refused n vs
+  said-refused : (p : Said State) (n : ℕ) (vs : List Float) → blockEnd s frames mask table input output work p .said ≡ refused n vs → p ≡ refused n vs
   said-refused (given t) n vs e = absurd (let z : _≡_ {A = ℕ} 0 1 = cc in omega arith)
   said-refused (refused m ws) n vs e =
       let a : m ≡ n = cc in
       let b : ws ≡ vs = cc in
       rw (a, b)
 
-  pub reach-exactly : T (fits binary64 (s .index)) → (blockOf s frames mask input output work .said ≡ refused 9 [])
-      ↔ ((isState s ≡ true) × (shapeHolds s frames mask (length input) (length output) (length work) ≡ true) × SomeOutside s)
+  pub reach-exactly : T (fits binary64 (s .index)) → (blockOf s frames mask table input output work .said ≡ refused 9 [])
+      ↔ ((isState s ≡ true) × (shapeHolds s frames mask (length table) (length input) (length output) (length work) ≡ true) × SomeOutside s)
   reach-exactly q =
-      let lens = planned s frames mask (length input) (length output) (length work) in (
+      let lens = planned s frames mask (length table) (length input) (length output) (length work) in (
         (λ e. let h = planned-9 s frames mask (length input) (length output) (length work) (said-refused lens 9 [] e) in (h .0, h .1, some-outside s q (h .0) (h .2))),
-        (λ h. ap (λ (p : Said State). blockEnd s frames mask input output work p .said)
-            (nine-planned s frames mask (length input) (length output) (length work) (h .0, h .1, outside-some s (h .2)))),
+        (λ h. ap (λ (p : Said State). blockEnd s frames mask table input output work p .said)
+            (nine-planned s frames mask (length table) (length input) (length output) (length work) (h .0, h .1, outside-some s (h .2)))),
       )

@@ -30,14 +30,14 @@ module _ (s : State) (n : ℕ) (vs : List Float) where
 
   -- the block: the record, the output area and the working area
   module _ (frames mask : ℕ) (input output work : List Float) where
-    ended : (d : Said State) → blockEnd s frames mask input output work d .said ≡ refused n vs
-        → (blockEnd s frames mask input output work d .state ≡ s) × (blockEnd s frames mask input output work d .output ≡ output) × (blockEnd s frames mask input output work d .work ≡ work)
+    ended : (d : Said State) → blockEnd s frames mask table input output work d .said ≡ refused n vs
+        → (blockEnd s frames mask table input output work d .state ≡ s) × (blockEnd s frames mask table input output work d .output ≡ output) × (blockEnd s frames mask table input output work d .work ≡ work)
     ended (given t) e = absurd (let z : _≡_ {A = ℕ} 0 1 = cc in omega arith)
     ended (refused m ws) e = (refl, refl, refl)
 
-    pub block-refused : blockOf s frames mask input output work .said ≡ refused n vs
-        → (blockOf s frames mask input output work .state ≡ s) × (blockOf s frames mask input output work .output ≡ output) × (blockOf s frames mask input output work .work ≡ work)
-    block-refused e = ended (planned s frames mask (length input) (length output) (length work)) e
+    pub block-refused : blockOf s frames mask table input output work .said ≡ refused n vs
+        → (blockOf s frames mask table input output work .state ≡ s) × (blockOf s frames mask table input output work .output ≡ output) × (blockOf s frames mask table input output work .work ≡ work)
+    block-refused e = ended (planned s frames mask (length table) (length input) (length output) (length work)) e
 
   -- reset: the record and the working area
   module _ (work : List Float) where

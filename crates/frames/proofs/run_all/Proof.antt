@@ -4,35 +4,27 @@ use native.Mathlib.Omega.{arith}
 use borrow.Author.Needs.{needs}
 use denote.Ref.{now}
 use mathlib.Core.Path.{_∙_, sym}
-use Rattle.path.proofs.Places.{shift-small, last-small, place-same, place-reach}
+use Rattle.path.proofs.Sites.{site-lies}
 use Rattle.frames.proofs.Run.{Ran, ran-none, ran-next, ran-done}
 use Rattle.frames.proofs.run_all.Statement.{statement}
 use Rattle.frames.proofs.run_all.Tie as tie
 
 abbrev Inv-loop : tie.InvT-loop
-Inv-loop degree needed mask work stride t d i n at out₀ share channels shift last moment₀ f₀ out moment f =
-    (f ≤ n) × Ran degree needed mask work stride t d i at share channels out₀ out moment f
+Inv-loop kind table needed mask work stride t d i n at out₀ share channels moment₀ f₀ out moment f =
+    (f ≤ n) × Ran kind table needed mask work stride t d i at share channels out₀ out moment f
 
 abbrev μ-loop : tie.MeasureT-loop
-μ-loop degree needed mask work stride t d i n at out₀ share channels shift last moment₀ f₀ out moment f =
+μ-loop kind table needed mask work stride t d i n at out₀ share channels moment₀ f₀ out moment f =
     n - f
 
-shift-of-requires : tie.Need-shift-of-requires Inv-loop μ-loop
-shift-of-requires c κs = search needs
-
-last-of-requires : tie.Need-last-of-requires Inv-loop μ-loop
-last-of-requires c κs = search needs
-
 loop-holds : tie.Need-loop-holds Inv-loop μ-loop
-loop-holds c = (omega arith, ran-none _ _ _ _ _ _ _ _ _ _ _ _)
+loop-holds c = (omega arith, ran-none _ _ _ _ _ _ _ _ _ _ _ _ _)
 
 step-index-requires : tie.Need-step-index-requires Inv-loop μ-loop
 step-index-requires c κs = search needs
 
-place-of-requires : tie.Need-place-of-requires Inv-loop μ-loop
-place-of-requires c κs =
-    let s = c .before .before .before .before .before .before .before in
-    omega (arith, shift-small (s .args .degree), last-small (s .args .degree) (s .args .needed) (s .pre .0 .0))
+site-of-requires : tie.Need-site-of-requires Inv-loop μ-loop
+site-of-requires c κs = search needs
 
 add-write-frame : tie.Need-add-write-frame Inv-loop μ-loop
 add-write-frame c = search needs
@@ -72,11 +64,9 @@ run-all-spec =
     (tie.spec
     Inv-loop
     μ-loop
-    shift-of-requires
-    last-of-requires
     loop-holds
     step-index-requires
-    place-of-requires
+    site-of-requires
     add-write-frame
     write-frame-requires
     add-f

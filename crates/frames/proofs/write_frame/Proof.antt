@@ -7,16 +7,16 @@ use lib.ListN.{length}
 use Rattle.area.proofs.Parts.{room}
 use Rattle.area.proofs.Parted.{Parted, parted-none, parted-done, lent-long}
 use Rattle.frames.specs.Turns.{wroteIn}
-use Rattle.path.proofs.Places.{reach-same}
+use Rattle.path.proofs.Sites.{lies-same}
 use Rattle.frames.proofs.Run.{wrote-next}
 use Rattle.frames.proofs.write_frame.Statement.{statement}
 use Rattle.frames.proofs.write_frame.Tie as tie
 
 abbrev Inv-loop : tie.InvT-loop
-Inv-loop degree mask work stride p k out₀ share channels c₀ out c = (c ≤ channels) × Parted (wroteIn degree mask work stride p k) share out₀ out c
+Inv-loop table mask work stride site k out₀ share channels c₀ out c = (c ≤ channels) × Parted (wroteIn table mask work stride site k) share out₀ out c
 
 abbrev μ-loop : tie.MeasureT-loop
-μ-loop degree mask work stride p k out₀ share channels c₀ out c = channels - c
+μ-loop table mask work stride site k out₀ share channels c₀ out c = channels - c
 
 -- there is room for this turn's part of each area
 rooms : (c : tie.In-loop Inv-loop μ-loop)
@@ -75,7 +75,7 @@ write-channel-requires c κs =
     let r = rooms (c .before .before .before) in
     let h : l .c * s .args .share + s .args .share ≤ length (l .out) = omega (arith, r, l .inv .1 .long) in (
       omega (arith, lent-long (l .c * s .args .share) (s .args .share) (l .out) h, s .pre .1 .1 .0),
-      reach-same _ (s .args .p) _ _ (lent-long (l .c * s .args .stride) (s .args .stride) (now (s .args .work)) (r .1)) (s .pre .1 .1 .1),
+      lies-same (s .args .site) _ _ _ (lent-long (l .c * s .args .stride) (s .args .stride) (now (s .args .work)) (r .1)) (s .pre .1 .1 .1),
     )
 
 add-c : tie.Need-add-c Inv-loop μ-loop
@@ -90,7 +90,7 @@ loop-again c =
     let l = c .before .before .before .before .before .before .before .loop in
     let f = c .before .before .write-channel in
     let r = rooms (c .before .before .before .before .before .before) in
-    (omega arith, wrote-next _ _ (now (s .args .work)) (s .args .stride) _ _ (s .args .share) (now (s .args .out)) (l .out) _ (l .c) _ (l .inv .1) (r .0) (c .before .before .before .before .before .is-on .ensures) (f .ensures))
+    (omega arith, wrote-next (now (s .args .table)) _ (now (s .args .work)) (s .args .stride) _ _ (s .args .share) (now (s .args .out)) (l .out) _ (l .c) _ (l .inv .1) (r .0) (c .before .before .before .before .before .is-on .ensures) (f .ensures))
 
 same-length : tie.Need-same-length Inv-loop μ-loop
 same-length c = c .before .loop .inv .1 .long

@@ -12,7 +12,7 @@ t-ratio-increment-requires : tie.Need-t-ratio-increment-requires
 t-ratio-increment-requires c κs = search needs
 
 look-requires : tie.Need-look-requires
-look-requires c κs = valid _ (c .before .before .pre) .input-few
+look-requires c κs = let v = valid _ (c .before .before .pre) in (v .kind-holds, v .input-few)
 
 returns : tie.Need-returns
 returns c =

@@ -1,7 +1,7 @@
 -- `plan::stride_of` meets its contract: a maximum and the points are small. Assumes nothing.
 use native.Mathlib.Omega.{arith}
 use borrow.Author.Needs.{needs}
-use Rattle.state.proofs.Points.{points-few}
+use Rattle.kinds.proofs.Laws.{points-few}
 use Rattle.plan.proofs.Shape.{stride-small, stride-is}
 use Rattle.plan.proofs.stride_of.Statement.{statement}
 use Rattle.plan.proofs.stride_of.Tie as tie
@@ -16,12 +16,12 @@ points-in-requires : tie.Need-points-in-requires
 points-in-requires c κs = search needs
 
 mul-result : tie.Need-mul-result
-mul-result c = omega (arith, c .points-in .ensures, points-few (c .before .before .before .args .s .degree))
+mul-result c = omega (arith, c .points-in .ensures, points-few (c .before .before .before .args .s .kind) (c .before .before .before .pre))
 
 add-result : tie.Need-add-result
 add-result c =
     let s = c .before .before .before .args .s in
-    omega (arith, stride-small s, stride-is s _ _ _ (c .before .before .max-input-of .ensures) (c .before .frames-of .ensures) (c .points-in .ensures))
+    omega (arith, stride-small s (c .before .before .before .pre), stride-is s _ _ _ (c .before .before .max-input-of .ensures) (c .before .frames-of .ensures) (c .points-in .ensures))
 
 returns : tie.Need-returns
 returns c = stride-is (c .before .before .before .args .s) _ _ _ (c .before .before .max-input-of .ensures) (c .before .frames-of .ensures) (c .points-in .ensures)

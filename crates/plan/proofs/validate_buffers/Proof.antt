@@ -18,13 +18,16 @@ share-holds-requires-2 c κs = search needs
 work-holds-requires : tie.Need-work-holds-requires
 work-holds-requires c κs = search needs
 
+table-holds-requires : tie.Need-table-holds-requires
+table-holds-requires c κs = search needs
+
 mask-fits-requires : tie.Need-mask-fits-requires
-mask-fits-requires c κs = omega (arith, valid _ (c .before .before .before .before .pre) .channels-few)
+mask-fits-requires c κs = omega (arith, valid _ (c .before .before .before .before .before .pre) .channels-few)
 
 returns : tie.Need-returns
 returns c =
-    shape-is (c .before .before .before .before .before .args .s) _ _ _ _ _ _ _ _ _ _ (c .before .before .before .before .frames-to-read .ensures) (c .before .before .before .share-holds .ensures)
-    (c .before .before .share-holds2 .ensures) (c .before .work-holds .ensures) (c .mask-fits .ensures)
+    shape-is (c .before .before .before .before .before .before .args .s) _ _ _ _ _ _ _ _ _ _ _ _ (c .before .before .before .before .before .frames-to-read .ensures) (c .before .before .before .before .share-holds .ensures)
+    (c .before .before .before .share-holds2 .ensures) (c .before .before .work-holds .ensures) (c .before .table-holds .ensures) (c .mask-fits .ensures)
 
 pub validate-buffers-spec : {M : Type 1} → statement M
 validate-buffers-spec =
@@ -34,5 +37,6 @@ validate-buffers-spec =
     share-holds-requires
     share-holds-requires-2
     work-holds-requires
+    table-holds-requires
     mask-fits-requires
     returns)

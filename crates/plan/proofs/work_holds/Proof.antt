@@ -4,12 +4,13 @@ use Prim.Native.Nat.{ℕ, _*_}
 use native.Mathlib.Omega.{arith}
 use borrow.Author.Needs.{needs}
 use lib.Dec.{eqb}
+use Rattle.state.proofs.Checked.{kind-of}
 use Rattle.plan.proofs.Shape.{work-small}
 use Rattle.plan.proofs.work_holds.Statement.{statement}
 use Rattle.plan.proofs.work_holds.Tie as tie
 
 stride-of-requires : tie.Need-stride-of-requires
-stride-of-requires c κs = search needs
+stride-of-requires c κs = kind-of _ (c .pre)
 
 mul-result : tie.Need-mul-result
 mul-result c =

@@ -12,7 +12,7 @@ asked-value-requires : tie.Need-asked-value-requires
 asked-value-requires c κs = search needs
 
 returns : tie.Need-returns
-returns c = c .asked-value .ensures ∙ ap (asked _) (c .before .step-now .ensures)
+returns c = c .asked-value .ensures ∙ ap (asked (c .before .before .args .s)) (c .before .step-now .ensures)
 
 pub input-step-now-spec : {M : Type 1} → statement M
 input-step-now-spec =

@@ -12,7 +12,7 @@ asked-value-requires : tie.Need-asked-value-requires
 asked-value-requires c κs = search needs
 
 returns : tie.Need-returns
-returns c = c .asked-value .ensures ∙ ap (asked _) (c .before .step-then .ensures)
+returns c = c .asked-value .ensures ∙ ap (asked (c .before .before .args .s)) (c .before .step-then .ensures)
 
 pub input-step-then-spec : {M : Type 1} → statement M
 input-step-then-spec =

@@ -2,9 +2,9 @@
 use mathlib.Core.Path.{sym, ap, _∙_}
 use borrow.Author.Needs.{needs}
 use Rattle.error.specs.Refusals.{given}
-use Rattle.error.proofs.Ladder.{pass, stop}
-use Rattle.state.proofs.Points.{points-between}
+use Rattle.kinds.proofs.Laws.{points-few, points-some}
 use Rattle.state.proofs.Valid.{valid}
+use Rattle.state.proofs.Checked.{check-fault, check-pass}
 use Rattle.questions.proofs.output_delay.Statement.{statement}
 use Rattle.questions.proofs.output_delay.Tie as tie
 
@@ -18,19 +18,22 @@ delay-of-requires : tie.Need-delay-of-requires
 delay-of-requires c κs =
     let s = c .before .before .before .args .s in
     let h = sym (c .before .before .is-state .ensures) ∙ c .before .if1 .taken in
-    let p = points-between (s .degree) in
-    rw (c .points-in .ensures) (p .0, p .1, valid s h .current-ratio)
+    let v = valid s h in
+    rw (c .points-in .ensures) (points-some (s .kind) (v .kind-holds), points-few (s .kind) (v .kind-holds), v .current-ratio)
+
+fault-of-requires : tie.Need-fault-of-requires
+fault-of-requires c κs = search needs
 
 returns : tie.Need-returns
 returns c =
     let d = c .before .before .before in
-    pass _ _ _ _ _ (sym (d .is-state .ensures) ∙ c .before .before .if1 .taken)
+    check-pass _ _ _ (sym (d .is-state .ensures) ∙ c .before .before .if1 .taken)
     (ap given (c .delay-of .ensures ∙ rw (c .before .points-in .ensures)))
 
 returns-2 : tie.Need-returns-2
-returns-2 c = stop _ _ _ _ (sym (c .before .is-state .ensures) ∙ c .if1 .left)
+returns-2 c = check-fault _ _ (c .fault-of .ensures) (sym (c .before .before .is-state .ensures) ∙ c .before .if1 .left)
 
 pub output-delay-spec : {M : Type 1} → statement M
 output-delay-spec =
     tie.close
-    (tie.spec is-state-requires points-in-requires delay-of-requires returns returns-2)
+    (tie.spec is-state-requires points-in-requires delay-of-requires fault-of-requires returns returns-2)

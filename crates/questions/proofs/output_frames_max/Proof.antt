@@ -16,7 +16,7 @@ asked-count-requires : tie.Need-asked-count-requires
 asked-count-requires c κs = search needs
 
 returns : tie.Need-returns
-returns c = c .asked-count .ensures ∙ ap (asked _) (c .before .frames-of .ensures ∙ ap framesOf (c .before .before .max-output-of .ensures))
+returns c = c .asked-count .ensures ∙ ap (asked (c .before .before .before .args .s)) (c .before .frames-of .ensures ∙ ap framesOf (c .before .before .max-output-of .ensures))
 
 pub output-frames-max-spec : {M : Type 1} → statement M
 output-frames-max-spec =

@@ -1,6 +1,6 @@
 -- `state::output_of` meets its contract. Assumes nothing.
 use borrow.Author.Needs.{needs}
-use Rattle.state.proofs.Points.{points-between}
+use Rattle.kinds.proofs.Laws.{points-few}
 use Rattle.state.proofs.output_of.Statement.{statement}
 use Rattle.state.proofs.output_of.Tie as tie
 
@@ -14,7 +14,9 @@ points-in-requires : tie.Need-points-in-requires
 points-in-requires c κs = search needs
 
 calculate-output-size-requires : tie.Need-calculate-output-size-requires
-calculate-output-size-requires c κs = rw (c .points-in .ensures) (points-between (c .before .before .before .args .s .degree) .1)
+calculate-output-size-requires c κs =
+    let e = c .before .before .before in
+    rw (c .points-in .ensures) (points-few (e .args .s .kind) (e .pre))
 
 returns : tie.Need-returns
 returns c = rw (← c .before .points-in .ensures, ← c .before .before .step-then .ensures, ← c .before .before .before .step-now .ensures) (c .calculate-output-size .ensures)

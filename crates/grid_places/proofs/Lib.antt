@@ -1,0 +1,3 @@
+-- The laws of a frame's grid points. Assumes nothing.
+pub mod Signs
+pub mod Answers

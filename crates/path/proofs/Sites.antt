@@ -1,0 +1,41 @@
+-- The site of an index, for each kind; and a site that was found has its samples within the working area, and its rows within the table. Assumes nothing.
+use mathlib.Core.Bool.{true}
+use mathlib.Core.Path.{_≡_, refl, subst}
+use Prim.Native.Nat.{ℕ, _+_, _*_, _≤_, _<_}
+use native.Mathlib.Omega.{arith}
+use lib.Ieee.{Float}
+use Rattle.asynchro_fast.specs.declared.PolynomialDegree.{PolynomialDegree}
+use Rattle.sinc_parameters.specs.declared.SincInterpolationType.{SincInterpolationType}
+use Rattle.kinds.specs.declared.Kind.{Kind}
+use Rattle.kinds.specs.declared.Kind.the-variants.{Polynomial, Sinc}
+use Rattle.kinds.specs.Kinds.{pointsOf, kindHolds, tableOf}
+use Rattle.kinds.proofs.Laws.{sized}
+use Rattle.grid_places.specs.declared.Spots.{Spots}
+use Rattle.grid_places.specs.Spots.{spotsOf}
+use Rattle.path.specs.declared.Place.{Place}
+use Rattle.path.specs.declared.Site.{Site}
+use Rattle.path.specs.declared.Site.the-variants.{Kernel, Grid}
+use Rattle.path.specs.Places.{placeOf, shiftOf, lastOf}
+use Rattle.path.specs.Sites.{siteOf}
+use Rattle.path.specs.Turns.{Lies}
+use Rattle.path.proofs.Places.{place-reach}
+
+-- ---- the site, by its kind
+pub site-kernel : (k : Kind) (degree : PolynomialDegree) (needed : ℕ) (x : Float) (shift last : ℕ) (p : Place) → k ≡ Polynomial degree → shift ≡ shiftOf degree → last ≡ lastOf degree needed
+    → p ≡ placeOf shift last x → Kernel degree p ≡ siteOf k needed x
+site-kernel k degree needed x shift last p e a b h = rw (e, h, a, b)
+
+pub site-grid : (k : Kind) (points factor : ℕ) (blend : SincInterpolationType) (needed : ℕ) (x : Float) (spots : Spots) → k ≡ Sinc points factor blend
+    → spots ≡ spotsOf blend factor (2 * points) (points + needed) x → Grid points spots ≡ siteOf k needed x
+site-grid k points factor blend needed x spots e h = rw (e, h)
+
+-- what the grid's places ask: they stay below 2 ^ 17
+pub grid-small : (k : Kind) (points factor : ℕ) (blend : SincInterpolationType) (needed : ℕ) → k ≡ Sinc points factor blend → kindHolds k ≡ true → needed ≤ 65536
+    → (2 * points < 131072) × (points + needed < 131072)
+grid-small k points factor blend needed e h l =
+    let q : kindHolds (Sinc points factor blend) ≡ true = subst (λ (z : Kind). kindHolds z ≡ true) e h in
+    let z = sized points factor q .points-most in
+    (omega arith, omega arith)
+
+pub lies-same : (site : Site) (n n′ m : ℕ) → n ≡ n′ → Lies site n′ m → Lies site n m
+lies-same site n n′ m e h = rw e h
