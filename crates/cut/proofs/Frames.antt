@@ -88,7 +88,7 @@ module _ (s : State) (a : isState s ≡ true) (b : reachHolds s ≡ true) where
       → Number binary64 x × Below (2 ^ (17 + low binary64)) (exact binary64 x)
   index-inside k l x e =
       let z = valid s a in
-      let p = reach-inside (s .kind) (z .kind-holds) (s .input) (stepNow s) (incrementOf s) (s .index) (s .output) b (suc k) (omega arith) l in
+      let p = reach-inside (s .kind) (s .input) (stepNow s) (incrementOf s) (s .index) (s .output) b (suc k) (omega arith) l in
       rw e (
         p .number,
         subst (λ (z : ℕ). Below z (exact binary64 (pathAt (stepNow s) (incrementOf s) (s .index) (suc k) .index))) (sym (pow-add 2 17 1074))

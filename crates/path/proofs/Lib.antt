@@ -4,4 +4,5 @@ pub mod Places
 pub mod Path
 pub mod Front
 pub mod Bounds
+pub mod Inside
 pub mod Sites

@@ -12,12 +12,14 @@ use Rattle.kinds.specs.Kinds.{pointsOf, kindHolds, tableOf}
 use Rattle.kinds.proofs.Laws.{sized}
 use Rattle.grid_places.specs.declared.Spots.{Spots}
 use Rattle.grid_places.specs.Spots.{spotsOf}
+use Rattle.grid_places.specs.Turns.{FitAll}
+use Rattle.grid_places.proofs.Grid.{spots-fit}
 use Rattle.path.specs.declared.Place.{Place}
 use Rattle.path.specs.declared.Site.{Site}
 use Rattle.path.specs.declared.Site.the-variants.{Kernel, Grid}
 use Rattle.path.specs.Places.{placeOf, shiftOf, lastOf}
 use Rattle.path.specs.Sites.{siteOf}
-use Rattle.path.specs.Turns.{Lies}
+use Rattle.path.specs.Turns.{Reaches, Lies}
 use Rattle.path.proofs.Places.{place-reach}
 
 -- ---- the site, by its kind
@@ -36,6 +38,23 @@ grid-small k points factor blend needed e h l =
     let q : kindHolds (Sinc points factor blend) ≡ true = subst (λ (z : Kind). kindHolds z ≡ true) e h in
     let z = sized points factor q .points-most in
     (omega arith, omega arith)
+
+-- ---- a site lies within n samples and a table of m
+lies : (k : Kind) → kindHolds k ≡ true → (needed : ℕ) (x : Float) (n m : ℕ) → 2 * pointsOf k + needed ≤ n → m ≡ tableOf k → Lies (siteOf k needed x) n m
+lies (Polynomial degree) h needed x n m l e = place-reach degree needed (placeOf (shiftOf degree) (lastOf degree needed) x) x n l refl
+lies (Sinc points factor blend) h needed x n m l e =
+    let z = sized points factor h in
+    (omega (arith, z .points-least), spots-fit blend factor (2 * points) (points + needed) x points n m (omega (arith, z .factor-least)) (omega arith) (omega (arith, e)))
+
+pub site-lies : (k : Kind) → kindHolds k ≡ true → (needed : ℕ) (x : Float) (n m : ℕ) (site : Site) → 2 * pointsOf k + needed ≤ n → m ≡ tableOf k → site ≡ siteOf k needed x → Lies site n m
+site-lies k h needed x n m site l e q = rw q (lies k h needed x n m l e)
+
+-- a site taken apart
+pub lies-kernel : (site : Site) (degree : PolynomialDegree) (p : Place) (n m : ℕ) → site ≡ Kernel degree p → Lies site n m → Reaches degree p n
+lies-kernel site degree p n m e h = rw e at h
+
+pub lies-grid : (site : Site) (l : ℕ) (spots : Spots) (n m : ℕ) → site ≡ Grid l spots → Lies site n m → (1 ≤ l) × FitAll l n m spots
+lies-grid site l spots n m e h = rw e at h
 
 pub lies-same : (site : Site) (n n′ m : ℕ) → n ≡ n′ → Lies site n′ m → Lies site n m
 lies-same site n n′ m e h = rw e h

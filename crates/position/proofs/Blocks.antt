@@ -100,7 +100,7 @@ module _ (k : Kind) (holds-kind : kindHolds k ≡ true) (n c : ℕ) (t u i : Flo
   few = omega (arith, points-few k holds-kind)
 
   frame : (j : ℕ) → suc j ≤ n → Inside (pointsOf k) c (at (suc j))
-  frame j l = subst (Inside (pointsOf k) c) (path-index t inc i (suc j)) (reach-inside k holds-kind c t inc i n reach (suc j) (zero-lt-suc j) l)
+  frame j l = subst (Inside (pointsOf k) c) (path-index t inc i (suc j)) (reach-inside k c t inc i n reach (suc j) (zero-lt-suc j) l)
 
   stays : (j : ℕ) → j ≤ n → Number binary64 (at j) × Below (2 ^ 1091) (exact binary64 (at j))
   unfolding walk

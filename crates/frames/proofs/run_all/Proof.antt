@@ -31,10 +31,11 @@ add-write-frame c = search needs
 
 write-frame-requires : tie.Need-write-frame-requires Inv-loop μ-loop
 write-frame-requires c κs =
-    let s = c .before .before .before .before .before .before .before .before .before in
+    let s = c .before .before .before .before .before .before .before .before in
     let l = c .before .before .before .before .loop in
-    let p = place-same _ _ _ _ _ _ (c .before .before .before .before .before .before .shift-of .ensures) (c .before .before .before .before .before .last-of .ensures) (c .before .place-of .ensures) in
-    (s .pre .0 .1, ((s .pre .1 .0 .0, s .pre .1 .0 .1 ∙ sym (l .inv .1 .long)), (omega arith, place-reach _ _ _ _ _ (s .pre .1 .1 .1) p)))
+    let k = s .pre .0 in
+    let r = s .pre .1 .1 in
+    (s .pre .1 .0 .1, ((r .0 .0, r .0 .1 ∙ sym (l .inv .1 .long)), (omega arith, site-lies (s .args .kind) (k .0) (s .args .needed) _ _ _ _ (r .1 .1) (k .1) (c .before .site-of .ensures))))
 
 add-f : tie.Need-add-f Inv-loop μ-loop
 add-f c = search needs
@@ -44,19 +45,18 @@ loop-less c = search needs
 
 loop-again : tie.Need-loop-again Inv-loop μ-loop
 loop-again c =
-    let s = c .before .before .before .before .before .before .before .before .before .before .before .before in
+    let s = c .before .before .before .before .before .before .before .before .before .before .before in
     let l = c .before .before .before .before .before .before .before .loop in
     let f = c .before .before .write-frame in
-    let p = c .before .before .before .before .place-of in
+    let p = c .before .before .before .before .site-of in
     let m = c .before .before .before .before .before .step-index in
-    let q = place-same _ _ _ _ _ _ (c .before .before .before .before .before .before .before .before .before .shift-of .ensures) (c .before .before .before .before .before .before .before .before .last-of .ensures) (p .ensures) in
-    (omega arith, ran-next _ _ _ (now (s .args .work)) _ _ _ _ (s .args .at) (s .args .share) (s .args .channels) (now (s .args .out)) (l .out) _ (l .moment) (m .result) (p .result) (l .f) (l .inv .1) (omega arith) (omega arith) (f .kept .1 .1 .1 .1 .1 .1 .0) (m .ensures) q (f .ensures))
+    (omega arith, ran-next _ (now (s .args .table)) _ _ (now (s .args .work)) _ _ _ _ (s .args .at) (s .args .share) (s .args .channels) (now (s .args .out)) (l .out) _ (l .moment) (m .result) (p .result) (l .f) (l .inv .1) (omega arith) (omega arith) (f .kept .1 .1 .1 .1 .1 .1 .0) (m .ensures) (p .ensures) (f .ensures))
 
 same-length : tie.Need-same-length Inv-loop μ-loop
 same-length c = c .before .loop .inv .1 .long
 
 returns : tie.Need-returns Inv-loop μ-loop
-returns c = ran-done _ _ _ _ _ _ _ _ _ _ _ _ _ (c .before .loop .moment) (c .before .loop .f) (c .before .before .before .before .before .before .args .n) (c .before .loop .inv .1) (omega arith)
+returns c = ran-done _ _ _ _ _ _ _ _ _ _ _ _ _ _ (c .before .loop .moment) (c .before .loop .f) (c .before .before .before .before .before .args .n) (c .before .loop .inv .1) (omega arith)
 
 pub run-all-spec : {M : Type 1} → statement M
 run-all-spec =

@@ -19,7 +19,7 @@ same-length c = search needs
 
 returns : tie.Need-returns
 returns c =
-    let s = c .before .before .before .before in
+    let s = c .before .before .before .before .before in
     written (s .args .on) (now (s .args .share)) (s .args .k) _ _ (c .before .if1 .taken) (c .value .ensures)
 
 returns-2 : tie.Need-returns-2

@@ -20,10 +20,10 @@ abbrev μ-loop : tie.MeasureT-loop
 
 -- there is room for this turn's part of each area
 rooms : (c : tie.In-loop Inv-loop μ-loop)
-    → (c .before .loop .c * c .before .before .before .before .args .share + c .before .before .before .before .args .share ≤ length (now (c .before .before .before .before .args .out)))
-    × (c .before .loop .c * c .before .before .before .before .args .stride + c .before .before .before .before .args .stride ≤ length (now (c .before .before .before .before .args .work)))
+    → (c .before .loop .c * c .before .before .before .before .before .args .share + c .before .before .before .before .before .args .share ≤ length (now (c .before .before .before .before .before .args .out)))
+    × (c .before .loop .c * c .before .before .before .before .before .args .stride + c .before .before .before .before .before .args .stride ≤ length (now (c .before .before .before .before .before .args .work)))
 rooms c =
-    let s = c .before .before .before .before in
+    let s = c .before .before .before .before .before in
     (room (c .before .loop .c) (s .args .channels) (s .args .share) _ (c .loop-test .taken) (omega arith), room (c .before .loop .c) (s .args .channels) (s .args .stride) _ (c .loop-test .taken) (omega arith))
 
 loop-holds : tie.Need-loop-holds Inv-loop μ-loop
@@ -70,7 +70,7 @@ part-write-channel-end-2 c = omega (arith, rooms (c .before .before), c .before 
 
 write-channel-requires : tie.Need-write-channel-requires Inv-loop μ-loop
 write-channel-requires c κs =
-    let s = c .before .before .before .before .before .before .before in
+    let s = c .before .before .before .before .before .before .before .before in
     let l = c .before .before .before .before .loop in
     let r = rooms (c .before .before .before) in
     let h : l .c * s .args .share + s .args .share ≤ length (l .out) = omega (arith, r, l .inv .1 .long) in (
@@ -86,7 +86,7 @@ loop-less c = search needs
 
 loop-again : tie.Need-loop-again Inv-loop μ-loop
 loop-again c =
-    let s = c .before .before .before .before .before .before .before .before .before .before in
+    let s = c .before .before .before .before .before .before .before .before .before .before .before in
     let l = c .before .before .before .before .before .before .before .loop in
     let f = c .before .before .write-channel in
     let r = rooms (c .before .before .before .before .before .before) in
@@ -96,7 +96,7 @@ same-length : tie.Need-same-length Inv-loop μ-loop
 same-length c = c .before .loop .inv .1 .long
 
 returns : tie.Need-returns Inv-loop μ-loop
-returns c = parted-done _ _ _ _ (c .before .loop .c) (c .before .before .before .before .args .channels) (c .before .loop .inv .1) (omega arith)
+returns c = parted-done _ _ _ _ (c .before .loop .c) (c .before .before .before .before .before .args .channels) (c .before .loop .inv .1) (omega arith)
 
 pub write-frame-spec : {M : Type 1} → statement M
 write-frame-spec =
