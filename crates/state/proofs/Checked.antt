@@ -6,6 +6,7 @@ use Prim.Native.Nat.{ℕ}
 use lib.Ieee.{Float}
 use Rattle.error.specs.Refusals.{Said, given, refused, unless, numberOf, valuesOf}
 use Rattle.error.proofs.Ladder.{pass, stop, accepted}
+use Rattle.error.specs.declared.Refusal.{Refusal}
 use Rattle.error.specs.declared.Refusal.the-variants as refusal
 use Rattle.kinds.specs.Kinds.{kindHolds}
 use Rattle.state.specs.declared.State.{State}
@@ -29,6 +30,10 @@ check-stop s next h = go (kindHolds (s .kind))
     go : (b : Bool) → refused (numberOf (cond b refusal.StateRecord refusal.Argument)) (valuesOf (cond b refusal.StateRecord refusal.Argument)) ≡ unless b 11 [] (unless (isState s) 10 [] next)
     go true = stop (isState s) 10 [] next h
     go false = refl
+
+-- the same of what `fault_of` answers
+pub check-fault : {A : Type 0} (s : State) (next : Said A) {r : Refusal} → r ≡ faultOf s → isState s ≡ false → refused (numberOf r) (valuesOf r) ≡ checked s next
+check-fault s next e h = rw e (check-stop s next h)
 
 -- the record passes: the next rung decides
 pub check-pass : {A : Type 0} (s : State) (next x : Said A) → isState s ≡ true → x ≡ next → x ≡ checked s next

@@ -18,13 +18,13 @@ enum-known-next c = search needs
 write-requires : tie.Need-write-requires
 write-requires c κs =
     let t = c .before .before .before in
-    let a = t .before .before .before .before .before .before .args in
+    let a = t .before .before .before .before .before .before .before .args in
     let k = block-tests (a .s) _ _ (now (a .table)) (now (a .input)) (now (a .output)) (now (a .work)) _ (t .before .before .plan .ensures) _ (t .next .given .1) in
     (k .0, (k .1, (refl, refl)))
 
 returns : tie.Need-returns
 returns c =
-    let a = c .before .before .before .before .before .before .before .args in
+    let a = c .before .before .before .before .before .before .before .before .args in
     block-refused (a .s) _ _ (now (a .table)) (now (a .input)) (now (a .output)) (now (a .work)) _ (c .before .before .before .plan .ensures) _ (c .before .r .given .1)
 
 same-length : tie.Need-same-length
@@ -37,7 +37,7 @@ returns-2 : tie.Need-returns-2
 returns-2 c =
     let w = c .before .before .before .before .write in
     let t = c .before .before .before .before .before .before .before .before in
-    let a = t .before .before .before .before .before .before .args in
+    let a = t .before .before .before .before .before .before .before .args in
     block-ran (a .s) _ _ (now (a .table)) (now (a .input)) (now (a .output)) (now (a .work)) _ (t .before .before .plan .ensures) _ _ _ (t .next .given .1) (w .ensures .0) (w .ensures .1)
 
 pub process-into-buffer-spec : {M : Type 1} → statement M

@@ -10,7 +10,7 @@ use Rattle.process.proofs.write.Statement.{statement}
 use Rattle.process.proofs.write.Tie as tie
 
 stride-of-requires : tie.Need-stride-of-requires
-stride-of-requires c κs = kind-of _ (c .pre .0)
+stride-of-requires c κs = kind-of _ (c .before .before .before .before .pre .0)
 
 points-in-requires : tie.Need-points-in-requires
 points-in-requires c κs = search needs
@@ -22,22 +22,22 @@ frames-to-read-requires : tie.Need-frames-to-read-requires
 frames-to-read-requires c κs = search needs
 
 div-share-in : tie.Need-div-share-in
-div-share-in c = valid _ (c .before .before .before .before .before .before .pre .0) .channels-some
+div-share-in c = valid _ (c .before .before .before .before .before .before .before .pre .0) .channels-some
 
 div-share-out : tie.Need-div-share-out
-div-share-out c = valid _ (c .before .before .before .before .before .before .pre .0) .channels-some
+div-share-out c = valid _ (c .before .before .before .before .before .before .before .pre .0) .channels-some
 
 move-all-requires : tie.Need-move-all-requires
 move-all-requires c κs =
     let p = c .before .before in
-    let t = p .before .before .before .before .before in
+    let t = p .before .before .before .before .before .before in
     move-asks _ _ _ _ _ _ (shaped _ _ _ _ _ _ _ (t .pre .0) (t .pre .1 .0)) _ _ (p .before .stride-of .ensures) (p .points-in .ensures) _ refl
 
 load-all-requires : tie.Need-load-all-requires
 load-all-requires c κs =
     let m = c .before .before .before in
     let p = m .before .before .before in
-    let t = p .before .before .before .before .before in
+    let t = p .before .before .before .before .before .before in
     load-asks _ _ _ _ _ _ (shaped _ _ _ _ _ _ _ (t .pre .0) (t .pre .1 .0)) _ _ (p .before .stride-of .ensures) (p .points-in .ensures) _ _ _
     (m .move-all .kept .0) (t .pre .1 .1 .0) (m .before .before .frames-to-read .ensures)
 
@@ -52,7 +52,7 @@ run-all-requires c κs =
     let l = c .before .before .before .before .before .before in
     let m = l .before .before .before .before in
     let p = m .before .before .before in
-    let t = p .before .before .before .before .before in
+    let t = p .before .before .before .before .before .before in
     run-asks _ _ _ _ _ _ (shaped _ _ _ _ _ _ _ (t .pre .0) (t .pre .1 .0)) _ _ (p .before .stride-of .ensures) (p .points-in .ensures) _ _
     (l .load-all .kept .0 ∙ m .move-all .kept .0) (t .pre .1 .1 .1)
 
@@ -70,7 +70,7 @@ returns c =
     let m = l .before .before .before .before in
     let f = m .before .before in
     let p = f .before in
-    let t = p .before .before .before .before .before in
+    let t = p .before .before .before .before .before .before in
     written (t .args .s) _ _ (now (t .args .table)) (now (t .args .input)) _ (now (t .args .work)) _ (now (t .args .output)) _ _ _ _ _ _ _ _ (p .before .stride-of .ensures) (p .points-in .ensures) (f .frames-to-read .ensures)
     (m .move-all .ensures) (l .load-all .ensures) (d .before .step-now .ensures) (d .t-ratio-increment .ensures) (r .run-all .ensures)
 
