@@ -53,8 +53,8 @@ returns c =
     let w = d .before .before .before .before in
     let o = w .before .before .before in
     let i = o .before .before .before in
-    let a = i .before .before .before .before .before .args in
-    run-lent (a .s) _ _ (now (a .input)) (now (a .output)) (now (a .work)) _ _ _ _ _ _ (d .run-on-zeros .result) _ _
+    let a = i .before .before .before .before .before .before .args in
+    run-lent (a .s) _ _ (now (a .table)) (now (a .input)) (now (a .output)) (now (a .work)) _ _ _ _ _ _ (d .run-on-zeros .result) _ _
     (i .before .area-length .ensures) (i .samples-of .ensures) (o .before .area-length2 .ensures) (o .samples-of2 .ensures) (w .before .work-length .ensures) (w .samples-of3 .ensures)
     (d .run-on-zeros .ensures)
 

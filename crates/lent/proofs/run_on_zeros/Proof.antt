@@ -21,8 +21,8 @@ returns : tie.Need-returns
 returns c =
     let d = c .before .before .before .before in
     let z = d .before .before .before .before .before in
-    let a = z .before .before .before .before .before .args in
-    run-zeros (a .s) _ _ (now (a .input)) (now (a .output)) _ (now (a .work)) _ (z .zero-all .ensures) (d .process-into-buffer .ensures)
+    let a = z .before .before .before .before .before .before .args in
+    run-zeros (a .s) _ _ (now (a .table)) (now (a .input)) (now (a .output)) _ (now (a .work)) _ (z .zero-all .ensures) (d .process-into-buffer .ensures)
 
 pub run-on-zeros-spec : {M : Type 1} → statement M
 run-on-zeros-spec =

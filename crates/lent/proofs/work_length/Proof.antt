@@ -2,6 +2,7 @@
 use native.Mathlib.Omega.{arith}
 use borrow.Author.Needs.{needs}
 use Rattle.error.proofs.Ladder.{failed, passed}
+use Rattle.state.proofs.Checked.{kind-of}
 use Rattle.lent.proofs.Lengths.{work-none, work-all, work-fits}
 use Rattle.lent.proofs.work_length.Statement.{statement}
 use Rattle.lent.proofs.work_length.Tie as tie
@@ -13,7 +14,7 @@ returns : tie.Need-returns
 returns c = work-none _ (failed (c .before .is-state .ensures) (c .if1 .taken))
 
 stride-of-requires : tie.Need-stride-of-requires
-stride-of-requires c κs = search needs
+stride-of-requires c κs = kind-of _ (passed (c .before .is-state .ensures) (c .if1 .left))
 
 mul-result : tie.Need-mul-result
 mul-result c =
