@@ -1,13 +1,13 @@
 -- Where every grid point of an index is held, the index is a number from -shift - 1 on and below last - shift + 1. Assumes nothing.
-use mathlib.Core.Bool.{Bool, true, false, false≢true}
-use mathlib.Core.Path.{_≡_, refl, sym, ap, _∙_, subst}
+use mathlib.Core.Bool.{Bool, true, false}
+use mathlib.Core.Path.{_≡_, refl, subst}
 use Prim.Native.Nat.{ℕ, suc, _+_, _-_, _*_, _^_, _≤_, _<_}
 use native.Mathlib.Nat.{mul-le-mul-left, lt-of-mul-lt-mul-left}
 use native.Mathlib.Omega.{arith}
 use borrow.Author.Tests.{leb-true}
 use lib.Dec.{T, leb, lit<}
 use lib.IntN.{ℤ, pos, negsuc, _+ℤ_, _*ℤ_}
-use lib.Ieee.{Float, binary64, low, fits, toSigned}
+use lib.Ieee.{Float, binary64, low, fits}
 use Rattle.exact.specs.Whole.{Whole, _⊕_, _⊙_, Same, Less, AtMost}
 use Rattle.exact.specs.Exact.{exact, Number}
 use Rattle.exact.specs.Integers.{pairOf, Is}
@@ -17,7 +17,7 @@ use Rattle.whole.specs.Rounded.{floorOf}
 use Rattle.whole.specs.Numbers.{Greatest}
 use Rattle.whole.proofs.Small.{small-number}
 use Rattle.whole.proofs.Values.{floor-greatest}
-use Rattle.interpolation.specs.Grid.{inRange, pointOf}
+use Rattle.interpolation.specs.Grid.{pointOf}
 use Rattle.interpolation.specs.Steps.{innerOf, wholeBy, beginOf}
 use Rattle.interpolation.specs.declared.Point.{Point}
 use Rattle.interpolation.proofs.Integers.{is-same, at-is}
@@ -27,7 +27,7 @@ use Rattle.interpolation.proofs.Starts.{index-value, start-is}
 use Rattle.sinc_parameters.specs.declared.SincInterpolationType.{SincInterpolationType}
 use Rattle.sinc_parameters.specs.declared.SincInterpolationType.the-variants.{Nearest, Linear, Quadratic, Cubic}
 use Rattle.grid_places.specs.declared.Spot.the-variants.{Held}
-use Rattle.grid_places.specs.Spots.{within, spotFrom, spotOf, spotsOf, isHeld, allHeld}
+use Rattle.grid_places.specs.Spots.{within, spotFrom, spotsOf, isHeld, allHeld}
 use Rattle.grid_places.proofs.Grid.{leastOf, nearestOf, numberOf, held-range, held-middle}
 
 -- x is a number of at least -shift - 1, and below last - shift + 1

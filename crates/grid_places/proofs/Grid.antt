@@ -1,7 +1,7 @@
 -- The grid functions of the four blends by one form, and what fits: every grid point's row lies in the table and its samples in the working area. Assumes nothing.
 use mathlib.Core.Bool.{Bool, true, false, _&&_}
 use mathlib.Core.List.{List, [], _∷_, map}
-use mathlib.Core.Path.{_≡_, refl, sym, ap, _∙_, subst}
+use mathlib.Core.Path.{_≡_, refl, sym, _∙_, subst}
 use Prim.Native.Nat.{ℕ, zero, suc, _+_, _-_, _*_, _≤_, _<_}
 use native.Mathlib.Nat.{mul-le-mul-right}
 use native.Mathlib.Omega.{arith}
@@ -19,7 +19,7 @@ use Rattle.interpolation.proofs.Range.{in-range-one}
 use Rattle.sinc_parameters.specs.declared.SincInterpolationType.{SincInterpolationType}
 use Rattle.sinc_parameters.specs.declared.SincInterpolationType.the-variants.{Nearest, Linear, Quadratic, Cubic}
 use Rattle.grid_places.specs.declared.Spot.{Spot}
-use Rattle.grid_places.specs.declared.Spot.the-variants.{Held, Lost}
+use Rattle.grid_places.specs.declared.Spot.the-variants.{Held}
 use Rattle.grid_places.specs.Spots.{within, spotFrom, spotOf, gridOf, blendPlace, nth, blended, spotsSaid, spotsOf, isHeld, allHeld}
 use Rattle.grid_places.specs.Turns.{Fits, FitAll}
 

@@ -2,7 +2,6 @@
 use Prim.Native.Nat.{_-_, _≤_}
 use native.Mathlib.Omega.{arith}
 use borrow.Author.Needs.{needs}
-use denote.Ref.{now}
 use lib.ListN.{length}
 use Rattle.sinc_value.proofs.Sums.{Summed, sum-first, sum-next, sum-done}
 use Rattle.sinc_value.proofs.get_sinc_interpolated.Statement.{statement}

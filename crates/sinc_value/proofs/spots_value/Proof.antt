@@ -64,15 +64,15 @@ returns : tie.Need-returns
 returns c = rw (c .before .before .spots .given .1) (c .point-value .ensures)
 
 returns-2 : tie.Need-returns-2
-returns-2 c = 
+returns-2 c =
     two-value _ _ _ _ _ _ _ _ _ _ (c .before .before .point-value2 .ensures) (c .before .point-value3 .ensures) (c .before .before .before .before .spots2 .given .1) (c .lin-on .ensures)
 
 returns-3 : tie.Need-returns-3
-returns-3 c = 
+returns-3 c =
     three-value _ _ _ _ _ _ _ _ _ _ (c .before .before .before .point-value4 .ensures) (c .before .before .point-value5 .ensures) _ _ (c .before .point-value6 .ensures) (c .before .before .before .before .before .spots3 .given .1) (c .quad-on .ensures)
 
 returns-4 : tie.Need-returns-4
-returns-4 c = 
+returns-4 c =
     four-value _ _ _ _ _ _ _ _ _ _ (c .before .before .before .before .point-value7 .ensures) (c .before .before .before .point-value8 .ensures) _ _ _ _ (c .before .before .point-value9 .ensures) (c .before .point-value10 .ensures) (c .before .before .before .before .before .before .spots4 .given .1) (c .cubic-on .ensures)
 
 returns-5 : tie.Need-returns-5
