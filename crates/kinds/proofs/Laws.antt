@@ -1,17 +1,16 @@
 -- What a kind that passes its test fixes: points, factor and the table are small. Assumes nothing.
 use mathlib.Core.Bool.{true, _&&_, and-eq-true-iff}
 use mathlib.Core.Path.{_≡_, subst}
-use Prim.Native.Nat.{ℕ, _*_, _%_, _≤_, _<_}
+use Prim.Native.Nat.{ℕ, _*_, _%_, _≤_}
 use native.Mathlib.Nat.{mul-le-mul}
 use native.Mathlib.Omega.{arith}
 use borrow.Author.Tests.{leb-true}
 use lib.Dec.{eqb, leb}
 use Rattle.asynchro_fast.proofs.Laws as degrees
-use Rattle.asynchro_fast.specs.declared.PolynomialDegree.the-variants.{Nearest, Linear, Cubic, Quintic, Septic}
 use Rattle.sinc_parameters.specs.declared.SincInterpolationType.{SincInterpolationType}
 use Rattle.kinds.specs.declared.Kind.{Kind}
 use Rattle.kinds.specs.declared.Kind.the-variants.{Polynomial, Sinc}
-use Rattle.kinds.specs.Kinds.{pointsOf, beforeOf, sincHolds, kindHolds, tableOf}
+use Rattle.kinds.specs.Kinds.{pointsOf, sincHolds, kindHolds, tableOf}
 
 -- the bounds of a sinc
 pub record Sized (points factor : ℕ) : Type 0 where
@@ -41,17 +40,8 @@ pub points-some : (k : Kind) → kindHolds k ≡ true → 1 ≤ pointsOf k
 points-some (Polynomial degree) h = omega (arith, degrees.before-points degree)
 points-some (Sinc points factor blend) h = omega (arith, sized points factor h .points-least)
 
--- the samples before the one at fraction 0 are among those read
-pub before-points : (k : Kind) → kindHolds k ≡ true → beforeOf k < pointsOf k
-before-points (Polynomial degree) h = degrees.before-points degree
-before-points (Sinc points factor blend) h = omega (arith, sized points factor h .points-least)
-
 product-small : (points factor : ℕ) → Sized points factor → points * factor ≤ 262144
 product-small points factor z = mul-le-mul (z .points-most) (z .factor-most)
-
-pub table-small : (k : Kind) → kindHolds k ≡ true → tableOf k ≤ 262144
-table-small (Polynomial degree) h = omega arith
-table-small (Sinc points factor blend) h = product-small points factor (sized points factor h)
 
 -- a table is points*factor samples long
 pub table-sinc : (k : Kind) (points factor : ℕ) (blend : SincInterpolationType) → k ≡ Sinc points factor blend → kindHolds k ≡ true → (points * factor ≤ 262144) × (points * factor ≡ tableOf k)

@@ -11,11 +11,6 @@ abbrev pub pointsOf : Kind → ℕ
 pointsOf (Polynomial degree) = degrees.pointsOf degree
 pointsOf (Sinc points factor blend) = points
 
--- Document 01: "from floor(index) - b + 2L". R-4: "from its index + 2L"
-abbrev pub beforeOf : Kind → ℕ
-beforeOf (Polynomial degree) = degrees.beforeOf degree
-beforeOf (Sinc points factor blend) = 0
-
 -- R-4: "points even, 8 to 256; factor 3 to 1,024"
 abbrev pub sincHolds : ℕ → ℕ → Bool
 sincHolds points factor = leb 8 points && leb points 256 && eqb (points % 2) 0 && leb 3 factor && leb factor 1024

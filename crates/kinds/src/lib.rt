@@ -3,7 +3,7 @@ use asynchro_fast::PolynomialDegree;
 use sinc_parameters::SincInterpolationType;
 ghost use mathlib.Core.Path.{_≡_};
 ghost use mathlib.Core.Bool.{true};
-ghost use Rattle.kinds.specs.Kinds.{pointsOf, beforeOf, sincHolds, kindHolds, tableOf};
+ghost use Rattle.kinds.specs.Kinds.{pointsOf, sincHolds, kindHolds, tableOf};
 
 pub enum Kind {
     // A polynomial of this degree.
@@ -19,16 +19,6 @@ pub fn nbr_points(kind: Kind) -> usize
     match kind {
         Kind::Polynomial(degree) => asynchro_fast::nbr_points(degree),
         Kind::Sinc(points, _, _) => points,
-    }
-}
-
-// b, the number of samples read that stand before the one at fraction 0; of a sinc none is counted.
-pub fn points_before(kind: Kind) -> usize
-    ensures { λ n. ⌜ n ≡ beforeOf kind ⌝ }
-{
-    match kind {
-        Kind::Polynomial(degree) => asynchro_fast::points_before(degree),
-        Kind::Sinc(_, _, _) => 0,
     }
 }
 

@@ -43,15 +43,9 @@ pub place-reach : (degree : PolynomialDegree) (needed : ℕ) (p : Place) (x : Fl
     → p ≡ placeOf (shiftOf degree) (lastOf degree needed) x → Reaches degree p n
 place-reach degree needed p x n h e = rw e (from-reach degree (shiftOf degree) (lastOf degree needed) (splitOf x .floor) (splitOf x .frac) n (omega arith))
 
-pub reach-same : (degree : PolynomialDegree) (p : Place) (m n : ℕ) → m ≡ n → Reaches degree p n → Reaches degree p m
-reach-same degree p m n e h = rw e h
-
 -- ---- a place taken apart
 pub reach-at : (degree : PolynomialDegree) (p : Place) (s : ℕ) (x : Float) (n : ℕ) → p ≡ At s x → Reaches degree p n → s + pointsOf degree ≤ n
 reach-at degree p s x n e h = rw e at h
-
-pub place-same : (p : Place) (shift last shift′ last′ : ℕ) (x : Float) → shift ≡ shift′ → last ≡ last′ → p ≡ placeOf shift last x → p ≡ placeOf shift′ last′ x
-place-same p shift last shift′ last′ x e l h = rw (← e, ← l) h
 
 -- floor and fraction come from `splitOf`
 pub place-split : (shift last : ℕ) (x : Float) (s : Parts) (p : Place) → s ≡ splitOf x → p ≡ placeFrom shift last (s .floor) (s .frac) → p ≡ placeOf shift last x

@@ -17,7 +17,6 @@ use Rattle.state.specs.declared.State.{State}
 use Rattle.sizes.specs.Bounds.{isSize}
 use Rattle.sizes.specs.Sizes.{neededInput, neededOutput, framesOf, isFrames, sizeHolds}
 use Rattle.state.specs.Record.{pointsIn, stepNow, stepThen, inputOf, outputOf, maxInputOf, isState, withSizes, updateLengths}
-use Rattle.kinds.specs.Kinds.{kindHolds}
 use Rattle.kinds.proofs.Laws.{points-few}
 use Rattle.state.proofs.Checked.{check-accepted}
 use Rattle.state.proofs.Valid.{valid}
