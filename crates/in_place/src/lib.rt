@@ -40,13 +40,14 @@ pub fn process_into_buffer(
     s: &mut State,
     frames: usize,
     mask: u64,
+    table: &[f64],
     input: &[f64],
     output: &mut [f64],
     work: &mut [f64],
 ) -> Ran
-    ensures { λ a. ⌜ blockLeft (record { state = now (s .exit); answer = a }) (now (output .exit)) (now (work .exit)) ≡ blockOf (now (s .entry)) frames mask (now (input .entry)) (now (output .entry)) (now (work .entry)) ⌝ }
+    ensures { λ a. ⌜ blockLeft (record { state = now (s .exit); answer = a }) (now (output .exit)) (now (work .exit)) ≡ blockOf (now (s .entry)) frames mask (now (table .entry)) (now (input .entry)) (now (output .entry)) (now (work .entry)) ⌝ }
 {
-    let ran = process::process_into_buffer(*s, frames, mask, input, output, work);
+    let ran = process::process_into_buffer(*s, frames, mask, table, input, output, work);
     *s = ran.state;
     ran.answer
 }
