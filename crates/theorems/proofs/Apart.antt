@@ -17,8 +17,8 @@ use Rattle.plan.proofs.Shape.{Shaped}
 use Rattle.process.specs.Block.{workAfter, outputAfter, blockEnd, blockOf}
 use Rattle.theorems.proofs.Areas.{shape-of, work-part}
 
--- one record, frames given and mask; two blocks whose areas have the same lengths
-module _ (s : State) (frames mask : ℕ) (input input′ output output′ work work′ : List Float)
+-- one record, frames given, mask and table; two blocks whose areas have the same lengths
+module _ (s : State) (frames mask : ℕ) (table input input′ output output′ work work′ : List Float)
     (i : length input ≡ length input′) (o : length output ≡ length output′) (w : length work ≡ length work′) where
   -- a channel's share of the input and of the output, and its part of the working area
   abbrev pub Alike : ℕ → Type 0
@@ -34,28 +34,28 @@ module _ (s : State) (frames mask : ℕ) (input input′ output output′ work w
       × (partOf (strideOf s) c (blockEnd s frames mask table input output work p .work) ≡ partOf (strideOf s) c (blockEnd s frames mask table input′ output′ work′ p .work))
 
   -- an accepted block
-  module _ (h : Shaped s frames (length input) (length output) (length work)) (c : ℕ) (l : c < s .channels) (a : Alike c) where
-    h′ : Shaped s frames (length input′) (length output′) (length work′)
+  module _ (h : Shaped s frames (length table) (length input) (length output) (length work)) (c : ℕ) (l : c < s .channels) (a : Alike c) where
+    h′ : Shaped s frames (length table) (length input′) (length output′) (length work′)
     h′ = rw (← i, ← o, ← w) h
 
     work-alike : partOf (strideOf s) c (workAfter s frames mask input 0 work) ≡ partOf (strideOf s) c (workAfter s frames mask input′ 0 work′)
-    work-alike = work-part s frames mask input work (length output) h c l ∙ same ∙ sym (work-part s frames mask input′ work′ (length output′) h′ c l)
+    work-alike = work-part s frames mask input work (length table) (length output) h c l ∙ same ∙ sym (work-part s frames mask input′ work′ (length table) (length output′) h′ c l)
       where
         same : loadedIn mask (2 * pointsIn s) input (length input / s .channels) 0 (readOf s frames) (s .input) c (movedIn (s .fill) (2 * pointsIn s) c (partOf (strideOf s) c work))
             ≡ loadedIn mask (2 * pointsIn s) input′ (length input′ / s .channels) 0 (readOf s frames) (s .input) c (movedIn (s .fill) (2 * pointsIn s) c (partOf (strideOf s) c work′))
         same = rw (← i, ← a .2) (loadedIn-apart mask (2 * pointsIn s) input input′ (length input / s .channels) 0 (readOf s frames) (s .input) c _ (a .0))
 
-    output-alike : partOf (length output / s .channels) c (outputAfter s mask (workAfter s frames mask input 0 work) 0 output)
-        ≡ partOf (length output / s .channels) c (outputAfter s mask (workAfter s frames mask input′ 0 work′) 0 output′)
+    output-alike : partOf (length output / s .channels) c (outputAfter s mask table (workAfter s frames mask input 0 work) 0 output)
+        ≡ partOf (length output / s .channels) c (outputAfter s mask table (workAfter s frames mask input′ 0 work′) 0 output′)
     unfolding outputAfter
     output-alike =
         rw (← o)
-        (run-apart (s .degree) (s .input) mask (strideOf s) (stepNow s) (incrementOf s) (s .index) (s .output) 0 (length output / s .channels) (s .channels) (rw zero-add (h .written-out .enough))
+        (run-apart (s .kind) table (s .input) mask (strideOf s) (stepNow s) (incrementOf s) (s .index) (s .output) 0 (length output / s .channels) (s .channels) (rw zero-add (h .written-out .enough))
         (workAfter s frames mask input 0 work) (workAfter s frames mask input′ 0 work′) output output′ (le-of-eq (h .written-out .whole)) (le-of-eq (h .written-out .whole ∙ o)) c l work-alike (a .1))
 
   ends : (c : ℕ) → c < s .channels → Alike c → (p : Said State) → planned s frames mask (length table) (length input) (length output) (length work) ≡ p → SameFor c p
   ends c l a (given t) e =
-      let h = shape-of s frames mask (length input) (length output) (length work) t e in
+      let h = shape-of s frames mask (length table) (length input) (length output) (length work) t e in
       (output-alike h c l a, work-alike h c l a)
   ends c l a (refused n vs) e = (a .1, a .2)
 

@@ -11,17 +11,20 @@ use Rattle.whole.specs.Rounded.{madeWhole}
 use Rattle.asynchro_fast.specs.declared.PolynomialDegree.{PolynomialDegree}
 use Rattle.asynchro_fast.specs.declared.PolynomialDegree.the-variants.{Nearest, Linear, Cubic, Quintic, Septic}
 use Rattle.asynchro_fast.specs.Kernels.{interpOf}
+use Rattle.kinds.specs.declared.Kind.the-variants.{Polynomial}
 use Rattle.interpolation.specs.Grid.{gridSaid, pointOf}
 use Rattle.sizes.specs.declared.FixedAsync.the-variants.{Input}
 use Rattle.state.specs.declared.State.{State}
 use Rattle.sizes.specs.Sizes.{sizeOf, neededInput, neededOutput, maxInput, maxOutput}
 use Rattle.state.specs.Record.{stepNow, isState, changed, updateLengths}
+use Rattle.state.proofs.Checked.{check-pass}
 use Rattle.asynchro.specs.Calls.{construct, firstLengths, setRatio}
 use Rattle.area.specs.Parts.{partsTo, eachPart}
 use Rattle.channel.specs.Moves.{moved, loaded}
 use Rattle.path.specs.Path.{pathAt}
-use Rattle.path.specs.Places.{shiftOf, lastOf, placeFrom, allReach}
-use Rattle.frames.specs.Run.{valueAt, framesTo}
+use Rattle.path.specs.Places.{placeFrom}
+use Rattle.path.specs.Sites.{allReach}
+use Rattle.frames.specs.Run.{kernelAt, valueAt, framesTo}
 use Rattle.path.proofs.Front.{reachFrom, reach-from}
 use Rattle.plan.specs.Plan.{shapeHolds, incrementOf, reachHolds, afterBlock, planned}
 use Rattle.process.specs.Block.{workAfter, outputAfter, blockEnd}
@@ -38,7 +41,7 @@ Every (c ∷ cs) = Holds c × Every cs
 
 -- ---- cases 1 and 2: their blocks go along 63 and 1,035 frames, so Reach is computed from the front, which `reach-from` shows to be the same
 begun : State
-begun = record { channels = 1; chunk = 1024; chunk0 = 1024; input = 1024; output = 63; fill = 1024; index = neg (count 4); original = sixteenthF; current = sixteenthF; target = sixteenthF; now = count 16; then = count 16; m = count 16; degree = Septic; fixed = Input }
+begun = record { channels = 1; chunk = 1024; chunk0 = 1024; input = 1024; output = 63; fill = 1024; index = neg (count 4); original = sixteenthF; current = sixteenthF; target = sixteenthF; now = count 16; then = count 16; m = count 16; kind = Polynomial Septic; fixed = Input }
 
 begun-is : septicMade ≡ given begun
 unfolding begun unless madeWhole sizeOf neededInput neededOutput maxInput maxOutput updateLengths firstLengths construct add sub mul div neg ofInt ofBits lt le eq
@@ -46,26 +49,26 @@ begun-is = refl
 
 -- what the block leaves, and what the setting makes of that
 onward : State
-onward = record { channels = 1; chunk = 1024; chunk0 = 1024; input = 1024; output = 64; fill = 1024; index = neg (count 20); original = sixteenthF; current = sixteenthF; target = sixteenthF; now = count 16; then = count 16; m = count 16; degree = Septic; fixed = Input }
+onward = record { channels = 1; chunk = 1024; chunk0 = 1024; input = 1024; output = 64; fill = 1024; index = neg (count 20); original = sixteenthF; current = sixteenthF; target = sixteenthF; now = count 16; then = count 16; m = count 16; kind = Polynomial Septic; fixed = Input }
 
 turned : State
-turned = record { channels = 1; chunk = 1024; chunk0 = 1024; input = 1024; output = 1035; fill = 1024; index = neg (count 20); original = sixteenthF; current = oneF; target = oneF; now = oneF; then = oneF; m = count 16; degree = Septic; fixed = Input }
+turned = record { channels = 1; chunk = 1024; chunk0 = 1024; input = 1024; output = 1035; fill = 1024; index = neg (count 20); original = sixteenthF; current = oneF; target = oneF; now = oneF; then = oneF; m = count 16; kind = Polynomial Septic; fixed = Input }
 
 begun-holds : isState begun ≡ true
 unfolding begun unless madeWhole sizeOf neededInput neededOutput maxInput maxOutput isState fits isNan toBits add sub mul div neg ofInt ofBits lt le eq
 begun-holds = refl
 
-begun-shape : shapeHolds begun 1024 1 (length (silence begun)) (length (replicate 63 zeroF)) (length (zeros begun)) ≡ true
+begun-shape : shapeHolds begun 1024 1 0 (length (silence begun)) (length (replicate 63 zeroF)) (length (zeros begun)) ≡ true
 unfolding begun madeWhole sizeOf maxInput maxOutput add sub mul div neg ofInt ofBits lt le eq
 begun-shape = refl
 
-begun-near : reachFrom (shiftOf Septic) (lastOf Septic 1024) (stepNow begun) (incrementOf begun) (begun .index) 63 ≡ true
+begun-near : reachFrom (Polynomial Septic) 1024 (stepNow begun) (incrementOf begun) (begun .index) 63 ≡ true
 unfolding begun reachFrom madeWhole placeFrom add sub mul div neg ofInt ofBits lt le eq
 begun-near = refl
 
 begun-reach : reachHolds begun ≡ true
 unfolding begun
-begun-reach = sym (reach-from (shiftOf Septic) (lastOf Septic 1024) (stepNow begun) (incrementOf begun) (begun .index) 63) ∙ begun-near
+begun-reach = sym (reach-from (Polynomial Septic) 1024 (stepNow begun) (incrementOf begun) (begun .index) 63) ∙ begun-near
 
 begun-path : pathAt (stepNow begun) (incrementOf begun) (begun .index) 63 .index -f count 1024 ≡ neg (count 20)
 unfolding begun pathAt add sub mul div neg ofInt ofBits
@@ -80,13 +83,13 @@ begun-sizes : given onward ≡ updateLengths (changed begun 1024 1024 63 1024 (n
 unfolding begun onward unless madeWhole sizeOf neededInput neededOutput maxInput maxOutput updateLengths add sub mul div neg ofInt ofBits lt le eq
 begun-sizes = refl
 
-begun-planned : planned begun 1024 1 (length (silence begun)) (length (replicate 63 zeroF)) (length (zeros begun)) ≡ given onward
+begun-planned : planned begun 1024 1 0 (length (silence begun)) (length (replicate 63 zeroF)) (length (zeros begun)) ≡ given onward
 unfolding planned
-begun-planned = sym (pass _ _ _ _ _ begun-holds (pass _ _ _ _ _ begun-shape (pass _ _ _ _ _ begun-reach (begun-sizes ∙ ap updateLengths (sym begun-after)))))
+begun-planned = sym (check-pass begun _ _ begun-holds (pass _ _ _ _ _ begun-shape (pass _ _ _ _ _ begun-reach (begun-sizes ∙ ap updateLengths (sym begun-after)))))
 
 begun-left : firstBlock begun .state ≡ onward
 unfolding begun
-begun-left = ap (λ (p : Said State). blockEnd begun 1024 1 (silence begun) (replicate 63 zeroF) (zeros begun) p .state) begun-planned
+begun-left = ap (λ (p : Said State). blockEnd begun 1024 1 [] (silence begun) (replicate 63 zeroF) (zeros begun) p .state) begun-planned
 
 holds-1 : Holds case-1
 unfolding begun onward
@@ -102,35 +105,35 @@ turned-holds : isState turned ≡ true
 unfolding turned unless madeWhole sizeOf neededInput neededOutput maxInput maxOutput isState fits isNan toBits add sub mul div neg ofInt ofBits lt le eq
 turned-holds = refl
 
-turned-shape : shapeHolds turned 1024 1 (length (silence turned)) (length (replicate 1035 zeroF)) (length (zeros begun)) ≡ true
+turned-shape : shapeHolds turned 1024 1 0 (length (silence turned)) (length (replicate 1035 zeroF)) (length (zeros begun)) ≡ true
 unfolding begun turned madeWhole sizeOf maxInput maxOutput add sub mul div neg ofInt ofBits lt le eq
 turned-shape = refl
 
-turned-far : reachFrom (shiftOf Septic) (lastOf Septic 1024) (stepNow turned) (incrementOf turned) (turned .index) 1035 ≡ false
+turned-far : reachFrom (Polynomial Septic) 1024 (stepNow turned) (incrementOf turned) (turned .index) 1035 ≡ false
 unfolding turned reachFrom madeWhole placeFrom add sub mul div neg ofInt ofBits lt le eq
 turned-far = refl
 
 turned-reach : reachHolds turned ≡ false
 unfolding turned
-turned-reach = sym (reach-from (shiftOf Septic) (lastOf Septic 1024) (stepNow turned) (incrementOf turned) (turned .index) 1035) ∙ turned-far
+turned-reach = sym (reach-from (Polynomial Septic) 1024 (stepNow turned) (incrementOf turned) (turned .index) 1035) ∙ turned-far
 
-turned-planned : planned turned 1024 1 (length (silence turned)) (length (replicate 1035 zeroF)) (length (zeros begun)) ≡ refused 9 []
+turned-planned : planned turned 1024 1 0 (length (silence turned)) (length (replicate 1035 zeroF)) (length (zeros begun)) ≡ refused 9 []
 unfolding planned
-turned-planned = sym (pass _ _ _ _ _ turned-holds (pass _ _ _ _ _ turned-shape (stop _ _ _ _ turned-reach)))
+turned-planned = sym (check-pass turned _ _ turned-holds (pass _ _ _ _ _ turned-shape (stop _ _ _ _ turned-reach)))
 
 -- on any working area as long as the one that case 1 began with, as the one that it left is
 turned-said : (work : List Float) → length work ≡ length (zeros begun) → nextBlock turned work ≡ size 1035 ∷ refusal 9 ∷ []
 unfolding turned
 turned-said work e =
-    ap (λ (p : Said State). size 1035 ∷ blockSaid (blockEnd turned 1024 1 (silence turned) (replicate 1035 zeroF) work p))
-    (ap (planned turned 1024 1 (length (silence turned)) (length (replicate 1035 zeroF))) e ∙ turned-planned)
+    ap (λ (p : Said State). size 1035 ∷ blockSaid (blockEnd turned 1024 1 [] (silence turned) (replicate 1035 zeroF) work p))
+    (ap (planned turned 1024 1 0 (length (silence turned)) (length (replicate 1035 zeroF))) e ∙ turned-planned)
 
 holds-2 : Holds case-2
 holds-2 =
     ap (λ (c : Said State). built c (λ s. atRatio1 (firstBlock s))) begun-is
     ∙ ap (λ (t : State). nextBlock (setRatio t oneF false .state) (firstBlock begun .work)) begun-left
     ∙ ap (λ (t : State). nextBlock t (firstBlock begun .work)) turned-is
-    ∙ turned-said (firstBlock begun .work) (work-stays-long begun (begun .input) 1 (silence begun) (replicate (begun .output) zeroF) (zeros begun))
+    ∙ turned-said (firstBlock begun .work) (work-stays-long begun (begun .input) 1 [] (silence begun) (replicate (begun .output) zeroF) (zeros begun))
 
 -- ---- the others
 holds-3 : Holds case-3
@@ -138,11 +141,11 @@ unfolding unless madeWhole sizeOf neededInput neededOutput maxInput maxOutput is
 holds-3 = refl
 
 holds-4 : Holds case-4
-unfolding unless madeWhole sizeOf neededInput neededOutput maxInput maxOutput isState fits isNan toBits updateLengths firstLengths construct pathAt placeFrom allReach planned moved loaded partsTo eachPart interpOf valueAt framesTo workAfter outputAfter add sub mul div neg ofInt ofBits lt le eq
+unfolding unless madeWhole sizeOf neededInput neededOutput maxInput maxOutput isState fits isNan toBits updateLengths firstLengths construct pathAt placeFrom allReach planned moved loaded partsTo eachPart interpOf kernelAt valueAt framesTo workAfter outputAfter add sub mul div neg ofInt ofBits lt le eq
 holds-4 = refl
 
 holds-5 : (a b : Float) → Holds (case-5 a b)
-unfolding unless madeWhole sizeOf neededInput neededOutput maxInput maxOutput isState fits isNan toBits updateLengths firstLengths construct pathAt placeFrom allReach planned moved loaded partsTo eachPart interpOf valueAt framesTo workAfter outputAfter add sub mul div neg ofInt ofBits lt le eq
+unfolding unless madeWhole sizeOf neededInput neededOutput maxInput maxOutput isState fits isNan toBits updateLengths firstLengths construct pathAt placeFrom allReach planned moved loaded partsTo eachPart interpOf kernelAt valueAt framesTo workAfter outputAfter add sub mul div neg ofInt ofBits lt le eq
 holds-5 a b = refl
 
 holds-6 : Holds case-6

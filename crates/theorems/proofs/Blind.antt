@@ -1,4 +1,4 @@
--- Document 01: "No refusal, size or index depends on a sample." Two blocks on one record whose areas have the same lengths leave the same record and say the same, whatever the samples. Assumes nothing.
+-- Document 01: "No refusal, size or index depends on a sample." Two blocks on one record whose tables and areas have the same lengths leave the same record and say the same, whatever the samples and the tables' entries. Assumes nothing.
 use mathlib.Core.List.{List}
 use mathlib.Core.Path.{_≡_, refl}
 use Prim.Native.Nat.{ℕ}
@@ -9,17 +9,17 @@ use Rattle.state.specs.declared.State.{State}
 use Rattle.plan.specs.Plan.{planned, resetting}
 use Rattle.process.specs.Block.{blockEnd, blockOf, resetEnd, resetOf}
 
-module _ (s : State) (frames mask : ℕ) (input input′ output output′ work work′ : List Float) where
+module _ (s : State) (frames mask : ℕ) (table table′ input input′ output output′ work work′ : List Float) where
   -- the end of a block by what was planned
-  ends : (p : Said State) → (blockEnd s frames mask table input output work p .state ≡ blockEnd s frames mask table input′ output′ work′ p .state)
-      × (blockEnd s frames mask table input output work p .said ≡ blockEnd s frames mask table input′ output′ work′ p .said)
+  ends : (p : Said State) → (blockEnd s frames mask table input output work p .state ≡ blockEnd s frames mask table′ input′ output′ work′ p .state)
+      × (blockEnd s frames mask table input output work p .said ≡ blockEnd s frames mask table′ input′ output′ work′ p .said)
   ends (given t) = (refl, refl)
   ends (refused n vs) = (refl, refl)
 
-  pub blind : length input ≡ length input′ → length output ≡ length output′ → length work ≡ length work′
-      → (blockOf s frames mask table input output work .state ≡ blockOf s frames mask table input′ output′ work′ .state)
-      × (blockOf s frames mask table input output work .said ≡ blockOf s frames mask table input′ output′ work′ .said)
-  blind i o w = rw (i, o, w) (ends (planned s frames mask (length input′) (length output′) (length work′)))
+  pub blind : length table ≡ length table′ → length input ≡ length input′ → length output ≡ length output′ → length work ≡ length work′
+      → (blockOf s frames mask table input output work .state ≡ blockOf s frames mask table′ input′ output′ work′ .state)
+      × (blockOf s frames mask table input output work .said ≡ blockOf s frames mask table′ input′ output′ work′ .said)
+  blind t i o w = rw (t, i, o, w) (ends (planned s frames mask (length table′) (length input′) (length output′) (length work′)))
 
 -- the same of a reset
 module _ (s : State) (work work′ : List Float) where

@@ -1,12 +1,13 @@
--- Laws for Reach.antt: every index of a block is a number, also where it runs out of reach; and Reach's test fails just where some frame's neighbours lie outside. Assumes nothing.
-use mathlib.Core.Bool.{Bool, true, false, _&&_, and-true, true≢false}
-use mathlib.Core.Logic.{_↔_}
+-- Laws for Reach.antt: every index of a block is a number, also where it runs out of reach; and Reach's test fails just where some frame's samples lie outside. Assumes nothing.
+use mathlib.Core.Bool.{Bool, true, false, _&&_, true≢false}
 use mathlib.Core.Path.{_≡_, refl, sym, ap, _∙_, subst}
 use Prim.Native.Nat.{ℕ, zero, suc, _+_, _*_, _^_, _≤_, _<_}
-use native.Mathlib.Nat.{le-refl, le-step, le-trans, mul-le-mul-right}
+use native.Mathlib.Nat.{le-trans, mul-le-mul-right}
 use native.Mathlib.Omega.{arith}
-use lib.Dec.{lit≤}
-use lib.Ieee.{Float, binary64}
+use borrow.Author.Tests.{le-leb}
+use lib.Dec.{T, lit≤}
+use lib.Ieee.{Float, binary64, fits}
+use lib.Pow.{pow-add}
 use Rattle.exact.specs.Doubles.{_-f_, _/f_, count}
 use Rattle.exact.specs.Whole.{Whole, _⊕_, _⊙_, Below, Within, Room}
 use Rattle.exact.specs.Exact.{exact, Number}
@@ -14,43 +15,40 @@ use Rattle.exact.specs.Rounding.{slack}
 use Rattle.exact.specs.Running.{run, walk}
 use Rattle.exact.proofs.Whole.{room-between}
 use Rattle.exact.proofs.Sums.{add-near}
+use Rattle.whole.specs.Small.{small}
+use Rattle.whole.proofs.Small.{is-small}
+use Rattle.interpolation.specs.Grid.{inRange}
+use Rattle.kinds.specs.declared.Kind.{Kind}
+use Rattle.kinds.specs.declared.Kind.the-variants.{Polynomial, Sinc}
+use Rattle.kinds.specs.Kinds.{sincHolds, kindHolds}
+use Rattle.kinds.proofs.Laws.{sized}
 use Rattle.state.specs.declared.State.{State}
 use Rattle.state.specs.Record.{stepNow, stepThen, isState}
 use Rattle.state.proofs.Valid.{valid}
 use Rattle.path.specs.Path.{pathAt}
-use Rattle.path.specs.Places.{placeOf, isAt, shiftOf, lastOf, allReach}
-use Rattle.path.proofs.Path.{reach-each}
-use Rattle.path.proofs.Bounds.{Placed, place-iff, path-fits}
+use Rattle.path.specs.Places.{placeOf, isAt, shiftOf, lastOf}
+use Rattle.path.specs.Sites.{siteOf, reached, allReach}
+use Rattle.path.proofs.Bounds.{place-iff}
+use Rattle.path.proofs.Inside.{path-fits}
 use Rattle.plan.specs.Plan.{incrementOf, reachHolds}
 use Rattle.plan.proofs.Planned.{increment-some}
 use Rattle.position.proofs.Tests.{holds, Double, index-of}
 use Rattle.position.proofs.Steps.{Pace, Step, step-now, step-then, increment-near, steps-near}
 use Rattle.position.proofs.Path.{path-index}
-use Rattle.theorems.specs.Block.{indexAt, Outside, SomeOutside}
+use Rattle.theorems.specs.Block.{indexAt, OutsideAt, SomeOutside}
+use Rattle.theorems.proofs.Each.{firstHold, some-fails, fails-some}
 use Rattle.theorems.proofs.Places.{floor-of, out-apart, out-else}
+use Rattle.theorems.proofs.Grids.{grid-outside, outside-grid}
 
--- ---- Reach fails just where some frame has no place
-module _ (shift last : ℕ) (t d i : Float) where
-  abbrev placed : ℕ → Bool
-  placed f = isAt (placeOf shift last (pathAt t d i f .index))
+-- ---- Reach is a row of tests, one for each frame
+module _ (kind : Kind) (needed : ℕ) (t d i : Float) where
+  abbrev reachedAt : ℕ → Bool
+  reachedAt f = reached (siteOf kind needed (pathAt t d i (suc f) .index))
 
-  some-out : (n : ℕ) → allReach shift last t d i n ≡ false → (f : ℕ) × (f < n) × (placed (suc f) ≡ false)
+  reach-row : (n : ℕ) → allReach kind needed t d i n ≡ firstHold reachedAt n
   unfolding allReach
-  some-out zero h = absurd (true≢false h)
-  some-out (suc n) h = go (placed (suc n)) refl (some-out n)
-    where
-      go : (b : Bool) → placed (suc n) ≡ b → (allReach shift last t d i n ≡ false → (f : ℕ) × (f < n) × (placed (suc f) ≡ false)) → (f : ℕ) × (f < suc n) × (placed (suc f) ≡ false)
-      go false e less = (n, le-refl (suc n), e)
-      go true e less =
-          let r = less (sym (and-true (allReach shift last t d i n)) ∙ ap (λ (b : Bool). allReach shift last t d i n && b) (sym e) ∙ h) in
-          (r .0, le-step (r .1), r .2)
-
-  all-not : (n f : ℕ) → f < n → placed (suc f) ≡ false → allReach shift last t d i n ≡ false
-  all-not n f l h = go (allReach shift last t d i n) refl
-    where
-      go : (b : Bool) → allReach shift last t d i n ≡ b → b ≡ false
-      go false e = refl
-      go true e = absurd (true≢false (sym (reach-each shift last t d i n e (suc f) (omega arith) l) ∙ h))
+  reach-row zero = refl
+  reach-row (suc n) = ap (λ (b : Bool). b && reachedAt n) (reach-row n)
 
 -- ---- every index of a block is a number, also where it runs out of reach. In units of 2 ^ -1074, over h, which is 2 ^ -46
 step-first : (h : ℕ) (t : Whole) → Pace h t → Room (2 ^ 10 * (2 ^ 46 * h)) (2 ^ 46 * h) t
@@ -95,40 +93,53 @@ module _ (t u i : Float) (a : Step t) (b : Step u) (p : Number binary64 i) (q : 
       let s = add-near binary64 28 (walk binary64 j i t inc) (run binary64 (suc j) t inc) (w .0) (r .0) (lit≤ tt) (sum-below (2 ^ 1074) j x v (lit≤ tt) (omega arith) (w .1) (r .1)) in
       (s .0, sum-next (2 ^ 1074) (slack binary64 28) j x v (exact binary64 (walk binary64 (suc j) i t inc)) (lit≤ tt) (w .1) (r .1) (s .1))
 
--- ---- a frame has no place just where its neighbours lie outside
-abbrev hasPlace : State → ℕ → Bool
-hasPlace s f = isAt (placeOf (shiftOf (s .degree)) (lastOf (s .degree) (s .input)) (indexAt s f))
-
--- it has one just where its index lies between the bounds
-placed-iff : (s : State) (f : ℕ) → (hasPlace s f ≡ true) ↔ Placed (shiftOf (s .degree)) (lastOf (s .degree) (s .input)) (indexAt s f)
-placed-iff s f = place-iff (shiftOf (s .degree)) (lastOf (s .degree) (s .input)) (indexAt s f) (path-fits (stepNow s) (incrementOf s) (s .index) f)
+-- ---- so it is small enough for the grid functions
+index-small : (U j : ℕ) (x : Whole) → j ≤ 65536 → Below ((131072 + j * 2048) * U) x → Below (2 ^ 52 * U) x
+index-small U j x l h = omega (arith, mul-le-mul-right U l)
 
 module _ (s : State) (q : Double (s .index)) (h : isState s ≡ true) (f : ℕ) (l : f < s .output) where
-  index-number : Number binary64 (indexAt s f)
-  index-number =
+  index-held : Number binary64 (indexAt s f) × (small (indexAt s f) ≡ true)
+  index-held =
       let v = valid s h in
       let x = index-of (s .index) q (holds (v .index-inside)) in
-      let w = walk-stays (stepNow s) (stepThen s) (s .index) (step-now s h) (step-then s h) (x .0) (x .1) (s .output) (omega arith) (v .output-few) (suc f) l .0 in
-      subst (λ (d : Float). Number binary64 (pathAt (stepNow s) d (s .index) (suc f) .index)) (increment-some s (stepNow s) (stepThen s) (count (s .output)) (λ z. omega arith) refl refl refl)
-      (subst (Number binary64) (sym (path-index (stepNow s) ((stepThen s -f stepNow s) /f count (s .output)) (s .index) (suc f))) w)
+      let inc = (stepThen s -f stepNow s) /f count (s .output) in
+      let y = walk binary64 (suc f) (s .index) (stepNow s) inc in
+      let w = walk-stays (stepNow s) (stepThen s) (s .index) (step-now s h) (step-then s h) (x .0) (x .1) (s .output) (omega arith) (v .output-few) (suc f) l in
+      let b = index-small (2 ^ 1074) (suc f) (exact binary64 y) (omega (arith, v .output-few)) (w .1) in
+      let e : y ≡ indexAt s f = sym (path-index (stepNow s) inc (s .index) (suc f))
+      ∙ ap (λ (d : Float). pathAt (stepNow s) d (s .index) (suc f) .index) (increment-some s (stepNow s) (stepThen s) (count (s .output)) (λ z. omega arith) refl refl refl) in
+      subst (λ (z : Float). Number binary64 z × (small z ≡ true)) e
+      (w .0, is-small y (w .0) (subst (λ (B : ℕ). Below B (exact binary64 y)) (sym (pow-add 2 52 1074)) b))
 
-  outside-of : hasPlace s f ≡ false → Outside s f
-  outside-of e =
-      let k = floor-of (indexAt s f) index-number in
-      record { floor = k .0; is = k .1; out = out-else (s .degree) (s .input) (indexAt s f) (k .0) (k .1) (λ z. true≢false (sym (placed-iff s f .1 z) ∙ e)) }
+  pub index-range : (points factor : ℕ) → sincHolds points factor ≡ true → inRange 3 (indexAt s f) factor ≡ true
+  index-range points factor k = let z = sized points factor k in rw (index-held .1, le-leb 3 factor (z .factor-least), le-leb factor 1048576 (omega (arith, z .factor-most)))
 
-outside-not : (s : State) (f : ℕ) → Outside s f → hasPlace s f ≡ false
-outside-not s f o = go (hasPlace s f) refl
-  where
-    go : (b : Bool) → hasPlace s f ≡ b → b ≡ false
-    go false e = refl
-    go true e = absurd (out-apart (s .degree) (s .input) (indexAt s f) (o .floor) (o .is) (o .out) (placed-iff s f .0 e))
+-- ---- a frame is out of reach just where its samples lie outside, for each kind
+module _ (needed : ℕ) (x : Float) where
+  outside-of : (k : Kind) → T (fits binary64 x) → Number binary64 x → ((points factor : ℕ) → sincHolds points factor ≡ true → inRange 3 x factor ≡ true) → kindHolds k ≡ true
+      → reached (siteOf k needed x) ≡ false → OutsideAt k needed x
+  outside-of (Polynomial degree) t n r h e =
+      let k = floor-of x n in
+      record { floor = k .0; is = k .1; out = out-else degree needed x (k .0) (k .1) (λ z. true≢false (sym (place-iff (shiftOf degree) (lastOf degree needed) x t .1 z) ∙ e)) }
+  outside-of (Sinc points factor blend) t n r h e = grid-outside points factor blend needed x (r points factor h) e
 
--- ---- Reach's test fails just where some frame's neighbours lie outside
+  outside-not : (k : Kind) → T (fits binary64 x) → OutsideAt k needed x → reached (siteOf k needed x) ≡ false
+  outside-not (Polynomial degree) t o = go (isAt (placeOf (shiftOf degree) (lastOf degree needed) x)) refl
+    where
+      go : (b : Bool) → isAt (placeOf (shiftOf degree) (lastOf degree needed) x) ≡ b → b ≡ false
+      go false e = refl
+      go true e = absurd (out-apart degree needed x (o .floor) (o .is) (o .out) (place-iff (shiftOf degree) (lastOf degree needed) x t .0 e))
+  outside-not (Sinc points factor blend) t o = outside-grid points factor blend needed x o
+
+-- ---- Reach's test fails just where some frame's samples lie outside
 pub some-outside : (s : State) → Double (s .index) → isState s ≡ true → reachHolds s ≡ false → SomeOutside s
 some-outside s q h e =
-    let o = some-out (shiftOf (s .degree)) (lastOf (s .degree) (s .input)) (stepNow s) (incrementOf s) (s .index) (s .output) e in
-    (o .0, o .1, outside-of s q h (o .0) (o .1) (o .2))
+    let row = reachedAt (s .kind) (s .input) (stepNow s) (incrementOf s) (s .index) in
+    let o = some-fails row (s .output) (sym (reach-row (s .kind) (s .input) (stepNow s) (incrementOf s) (s .index) (s .output)) ∙ e) in
+    let f = o .0 in
+    (f, o .1, outside-of (s .input) (indexAt s f) (s .kind) (path-fits (stepNow s) (incrementOf s) (s .index) f) (index-held s q h f (o .1) .0) (index-range s q h f (o .1)) (valid s h .kind-holds) (o .2))
 
 pub outside-some : (s : State) → SomeOutside s → reachHolds s ≡ false
-outside-some s (f, l, o) = all-not (shiftOf (s .degree)) (lastOf (s .degree) (s .input)) (stepNow s) (incrementOf s) (s .index) (s .output) f l (outside-not s f o)
+outside-some s (f, l, o) =
+    reach-row (s .kind) (s .input) (stepNow s) (incrementOf s) (s .index) (s .output)
+    ∙ fails-some (reachedAt (s .kind) (s .input) (stepNow s) (incrementOf s) (s .index)) (s .output) f l (outside-not (s .input) (indexAt s f) (s .kind) (path-fits (stepNow s) (incrementOf s) (s .index) f) o)

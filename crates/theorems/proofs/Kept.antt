@@ -67,10 +67,10 @@ module _ (s : State) (used : ℕ) (a : isState s ≡ true) (b : reachHolds s ≡
   kept-open-just total k l = let f = leads-else 0 (keptOf s used false total .from) (kept-from s used total a b false) k l in ((λ h. f .0 (h .0)), λ h. (f .1 h, l))
 
 -- ---- an accepted block has passed the two tests
-pub accepted-passes : (s : State) (frames mask : ℕ) (input output work : List Float) (u : Sizes) → blockOf s frames mask table input output work .said ≡ given u → (isState s ≡ true) × (reachHolds s ≡ true)
-accepted-passes s frames mask input output work u e = go (planned s frames mask (length table) (length input) (length output) (length work)) refl e
+pub accepted-passes : (s : State) (frames mask : ℕ) (table input output work : List Float) (u : Sizes) → blockOf s frames mask table input output work .said ≡ given u → (isState s ≡ true) × (reachHolds s ≡ true)
+accepted-passes s frames mask table input output work u e = go (planned s frames mask (length table) (length input) (length output) (length work)) refl e
   where
     go : (p : Said State) → planned s frames mask (length table) (length input) (length output) (length work) ≡ p → blockEnd s frames mask table input output work p .said ≡ given u
         → (isState s ≡ true) × (reachHolds s ≡ true)
     go (refused n vs) q h = absurd (let x : _≡_ {A = ℕ} 0 1 = cc in omega arith)
-    go (given t) q h = let p = passed s t frames mask (length input) (length output) (length work) q in (p .state, p .reach)
+    go (given t) q h = let p = passed s t frames mask (length table) (length input) (length output) (length work) q in (p .state, p .reach)

@@ -1,4 +1,4 @@
--- No call of a history is refused 10: what a construction, a setting, a block or a reset leaves passes the StateRecord test. Other refusals can come: bench case 2 is refused 9 after an accepted setting.
+-- No call of a history is refused 11 or 10: what a construction, a setting, a block or a reset leaves passes the StateRecord test. Other refusals can come: bench case 2 is refused 9 after an accepted setting.
 -- Restated from crates/position. Assumes nothing.
 use mathlib.Core.Bool.{true}
 use mathlib.Core.List.{List}

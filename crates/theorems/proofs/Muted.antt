@@ -12,15 +12,16 @@ use Rattle.area.specs.Parts.{partsTo, eachPart}
 use Rattle.area.specs.Moves.{movedAll, loadedAll}
 use Rattle.channel.specs.Moves.{moved, loaded}
 use Rattle.path.specs.Path.{pathAt}
-use Rattle.path.specs.Places.{placeFrom, allReach}
-use Rattle.frames.specs.Run.{valueAt, framesTo}
+use Rattle.path.specs.Places.{placeFrom}
+use Rattle.path.specs.Sites.{allReach}
+use Rattle.frames.specs.Run.{kernelAt, valueAt, framesTo}
 use Rattle.plan.specs.Plan.{planned}
 use Rattle.process.specs.Block.{workAfter, outputAfter}
 use Rattle.theorems.specs.Bench.{wholes}
 use Rattle.theorems.specs.Muted.{gives, found}
 
 pub muted-holds : gives ≡ found
-unfolding unless madeWhole sizeOf neededInput neededOutput maxInput maxOutput isState fits isNan toBits updateLengths firstLengths construct pathAt placeFrom allReach planned moved loaded partsTo eachPart interpOf valueAt framesTo workAfter outputAfter add sub mul div neg ofInt ofBits lt le eq
+unfolding unless madeWhole sizeOf neededInput neededOutput maxInput maxOutput isState fits isNan toBits updateLengths firstLengths construct pathAt placeFrom allReach planned moved loaded partsTo eachPart interpOf kernelAt valueAt framesTo workAfter outputAfter add sub mul div neg ofInt ofBits lt le eq
 muted-holds = refl
 
 -- the edit `muted_channel_not_moved` of crates/process: by the rule of before R-1 the second block leaves the area as it was, and not 0,0,0,1,1

@@ -29,7 +29,7 @@ module _ (s : State) (n : ℕ) (vs : List Float) where
   chunk-refused chunk e = end-refused (chunked s chunk) e
 
   -- the block: the record, the output area and the working area
-  module _ (frames mask : ℕ) (input output work : List Float) where
+  module _ (frames mask : ℕ) (table input output work : List Float) where
     ended : (d : Said State) → blockEnd s frames mask table input output work d .said ≡ refused n vs
         → (blockEnd s frames mask table input output work d .state ≡ s) × (blockEnd s frames mask table input output work d .output ≡ output) × (blockEnd s frames mask table input output work d .work ≡ work)
     ended (given t) e = absurd (let z : _≡_ {A = ℕ} 0 1 = cc in omega arith)

@@ -12,7 +12,8 @@ use Rattle.state.specs.Record.{stepOf, isState, changed, updateLengths}
 use Rattle.state.proofs.Valid.{valid}
 use Rattle.asynchro.specs.Calls.{setRatio}
 use Rattle.path.specs.Path.{pathAt}
-use Rattle.path.specs.Places.{placeFrom, allReach}
+use Rattle.path.specs.Places.{placeFrom}
+use Rattle.path.specs.Sites.{allReach}
 use Rattle.plan.specs.Plan.{planned, restored}
 use Rattle.position.specs.History.{Start, Call}
 use Rattle.position.specs.Position.{opened, ledger}

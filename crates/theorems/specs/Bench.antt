@@ -10,6 +10,7 @@ use Rattle.exact.specs.Doubles.{count, zeroF, oneF, halfF}
 use Rattle.error.specs.Refusals.{Said, given, refused}
 use Rattle.asynchro_fast.specs.declared.PolynomialDegree.{PolynomialDegree}
 use Rattle.asynchro_fast.specs.declared.PolynomialDegree.the-variants.{Nearest, Linear, Septic}
+use Rattle.kinds.specs.declared.Kind.the-variants.{Polynomial}
 use Rattle.asynchro_sinc.specs.Blends.{blendSaid, sincQuad}
 use Rattle.interpolation.specs.declared.Point.{Point}
 use Rattle.interpolation.specs.Grid.{nearest2, nearest4}
@@ -49,9 +50,9 @@ settingSaid r = saidItems (λ u. accepted ∷ []) (r .said)
 abbrev pub blockSaid : Block Sizes → List Item
 blockSaid b = saidItems (λ z. accepted ∷ []) (b .said)
 
--- a block of one channel, switched on, with all its needed input, on a working area: the frames of `input` and room for the needed output
+-- a block of one channel, switched on, with all its needed input, no table, on a working area: the frames of `input` and room for the needed output
 abbrev pub blockOn : State → List Float → List Float → Block Sizes
-blockOn s input work = blockOf s (s .input) 1 input (replicate (s .output) zeroF) work
+blockOn s input work = blockOf s (s .input) 1 [] input (replicate (s .output) zeroF) work
 
 abbrev pub silence : State → List Float
 silence s = replicate (s .input) zeroF
@@ -79,7 +80,7 @@ doubles = map double
 -- ---- the rows
 -- 1: Septic, fixed input 1024, r 1/16, m 16: out 63; then index -20, out 64
 abbrev pub septicMade : Said State
-septicMade = construct sixteenthF (count 16) Septic 1024 1 Input
+septicMade = construct sixteenthF (count 16) (Polynomial Septic) 1024 1 Input
 
 abbrev pub case-1 : Case
 case-1 = record {
@@ -106,7 +107,7 @@ case-2 = record {
 
 -- 3: Linear, fixed output 4, r 1, m 1: in 5; then index -2, in 4
 abbrev pub linearMade : Said State
-linearMade = construct oneF oneF Linear 4 1 Output
+linearMade = construct oneF oneF (Polynomial Linear) 4 1 Output
 
 abbrev pub case-3 : Case
 case-3 = record {
@@ -133,7 +134,7 @@ nearestBlock s b = size (s .input) ∷ doubles (b .output) ++ (double (b .state 
 abbrev pub case-5 : Float → Float → Case
 case-5 a b = record {
   number = 5;
-  gives = built (construct (count 2) oneF Nearest 3 1 Output) (λ s. nearestBlock s (blockOn s (a ∷ b ∷ []) (zeros s)));
+  gives = built (construct (count 2) oneF (Polynomial Nearest) 3 1 Output) (λ s. nearestBlock s (blockOn s (a ∷ b ∷ []) (zeros s)));
   found = size 2 ∷ double a ∷ double a ∷ double b ∷ double (neg oneF) ∷ [];
 }
 
@@ -144,7 +145,7 @@ ramped s = size (s .input) ∷ double (incrementOf s) ∷ double (firstBlock s .
 abbrev pub case-6 : Case
 case-6 = record {
   number = 6;
-  gives = built (construct oneF (count 2) Linear 4 1 Output) (λ s. ramped (setRatio s halfF true .state));
+  gives = built (construct oneF (count 2) (Polynomial Linear) 4 1 Output) (λ s. ramped (setRatio s halfF true .state));
   found = size 8 ∷ double quarterF ∷ double (ofBits binary64 0xc004_0000_0000_0000) ∷ [];
 }
 
@@ -152,13 +153,13 @@ case-6 = record {
 abbrev pub case-7 : Case
 case-7 = record {
   number = 7;
-  gives = built (construct oneF oneF Septic 1 1 Input) (λ s. size (s .output) ∷ double (firstBlock s .state .index) ∷ []);
+  gives = built (construct oneF oneF (Polynomial Septic) 1 1 Input) (λ s. size (s .output) ∷ double (firstBlock s .state .index) ∷ []);
   found = size 0 ∷ double (neg (count 5)) ∷ [];
 }
 
 -- 8: fixed output 65,536, r 0.5, m 1: refused 6
 abbrev pub case-8 : PolynomialDegree → Case
-case-8 degree = record { number = 8; gives = built (construct halfF oneF degree 65536 1 Output) (λ s. []); found = refusal 6 ∷ [] }
+case-8 degree = record { number = 8; gives = built (construct halfF oneF (Polynomial degree) 65536 1 Output) (λ s. []); found = refusal 6 ∷ [] }
 
 -- 9: Linear, fixed output 4, r 1, m 2, settings 0.5, 2, 2.5: yes, yes, refused 4
 -- one after the other, each on the record that the last one left
@@ -169,7 +170,7 @@ settings s (r ∷ rs) = settingSaid (setRatio s r false) ++ settings (setRatio s
 abbrev pub case-9 : Case
 case-9 = record {
   number = 9;
-  gives = built (construct oneF (count 2) Linear 4 1 Output) (λ s. settings s (halfF ∷ count 2 ∷ ofBits binary64 0x4004_0000_0000_0000 ∷ []));
+  gives = built (construct oneF (count 2) (Polynomial Linear) 4 1 Output) (λ s. settings s (halfF ∷ count 2 ∷ ofBits binary64 0x4004_0000_0000_0000 ∷ []));
   found = accepted ∷ accepted ∷ refusal 4 ∷ [];
 }
 

@@ -7,6 +7,7 @@ use lib.ListN.{replicate}
 use Rattle.exact.specs.Doubles.{count, oneF}
 use Rattle.error.specs.Refusals.{Said, given, refused}
 use Rattle.asynchro_fast.specs.declared.PolynomialDegree.the-variants.{Linear}
+use Rattle.kinds.specs.declared.Kind.the-variants.{Polynomial}
 use Rattle.sizes.specs.declared.FixedAsync.the-variants.{Input}
 use Rattle.state.specs.declared.State.{State}
 use Rattle.asynchro.specs.Calls.{construct}
@@ -25,7 +26,7 @@ pub record Left : Type 0 where
   pub work : List Float
 
 abbrev pub run : State → Turn → List Float → Block Sizes
-run s t work = blockOf s 1 (t .mask) (t .sample ∷ []) (replicate (s .output) (count 7)) work
+run s t work = blockOf s 1 (t .mask) [] (t .sample ∷ []) (replicate (s .output) (count 7)) work
 
 -- one block after the other, each on the record and the working area that the last one left
 abbrev pub runs : State → List Float → List Turn → List Left
@@ -42,7 +43,7 @@ begun (given s) = runs s (zeros s) turns
 begun (refused n vs) = []
 
 abbrev pub gives : List Left
-gives = begun (construct oneF oneF Linear 1 1 Input)
+gives = begun (construct oneF oneF (Polynomial Linear) 1 1 Input)
 
 -- the moves go on while the channel is off, with nothing read: the sample 1 is the frame when it is back, and the frame between stays 7
 abbrev pub found : List Left
