@@ -52,7 +52,7 @@ fn main() {
     let mut input = [0.0; 131072];
     let mut output = [0.0; 131072];
     let mut work = [0.0; 131072];
-    let mut table = [0.0; 65536];
+    let mut table = [0.0; 262144];
     serve_all(
         &mut buf,
         &mut out,

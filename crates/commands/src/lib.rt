@@ -81,13 +81,15 @@ fn run(
     let values = line.values;
     let command = command_in(line);
     match command {
-        Command::New => record::new(kept, values, work),
+        Command::New => record::new(kept, record::made_poly(values), work),
+        Command::NewSinc => record::new(kept, record::made_sinc(values), work),
         Command::SetArea => record::set_area(kept, values, input, work),
         Command::Area => left(kept, record::show_area(kept, output, work)),
         Command::Reset => record::reset(kept, work),
-        Command::Block => record::block(kept, values, input, output, work),
+        Command::Block => record::block(kept, values, input, output, work, table),
         Command::Window => left(kept, tables::window(values, output)),
         Command::Sincs => tables::sincs(kept, values, output, table),
+        Command::SetTable => tables::set_table(kept, values, input, output, table),
         Command::K => left(kept, leaves::kernel(values, input)),
         Command::SLin => left(kept, leaves::blend(2, values, input)),
         Command::SQuad => left(kept, leaves::blend(3, values, input)),

@@ -9,14 +9,17 @@ use crate::shown::with_state;
 use asynchro::Done;
 use asynchro::Outcome;
 use asynchro_fast::PolynomialDegree;
+use kinds::Kind;
 use printer::samples_of;
 use process::BlockOutcome;
 use process::Ran;
 use script::values::Values;
+use script::values::blend_at;
 use script::values::count_at;
 use script::values::degree_at;
 use script::values::flag_at;
 use script::values::float_at;
+use script::values::kind_in;
 use script::values::number_at;
 use script::values::side_at;
 use sizes::FixedAsync;
@@ -41,7 +44,7 @@ pub struct Change {
 
 // What is kept before the first command: a record that fails the StateRecord test, and no sample.
 pub fn nothing() -> Kept {
-    let degree = PolynomialDegree::Nearest;
+    let kind = Kind::Polynomial(PolynomialDegree::Nearest);
     let fixed = FixedAsync::Input;
     let state = State {
         channels: 0,
@@ -57,7 +60,7 @@ pub fn nothing() -> Kept {
         now: 0.0,
         then: 0.0,
         m: 0.0,
-        degree,
+        kind,
         fixed,
     };
     Kept {
@@ -119,7 +122,7 @@ fn zeroed(s: State, work: &mut [f64]) -> usize {
     n
 }
 
-fn made(values: Values) -> Made {
+pub fn made_poly(values: Values) -> Made {
     asynchro::new_poly(
         float_at(values, 0),
         float_at(values, 1),
@@ -130,6 +133,19 @@ fn made(values: Values) -> Made {
     )
 }
 
+pub fn made_sinc(values: Values) -> Made {
+    asynchro::new_sinc(
+        float_at(values, 0),
+        float_at(values, 1),
+        count_at(values, 2),
+        count_at(values, 3),
+        blend_at(values, 4),
+        count_at(values, 5),
+        count_at(values, 6),
+        side_at(values, 7),
+    )
+}
+
 // A new record and its area.
 fn begun(kept: Kept, state: State, work: &mut [f64]) -> Change {
     let mut then = kept;
@@ -137,34 +153,35 @@ fn begun(kept: Kept, state: State, work: &mut [f64]) -> Change {
     changed(then, state, with_state(ok(), state))
 }
 
-pub fn new(kept: Kept, values: Values, work: &mut [f64]) -> Change {
-    match made(values) {
+// What a construction leaves.
+pub fn new(kept: Kept, made: Made, work: &mut [f64]) -> Change {
+    match made {
         Made::Refused(r) => left(kept, refused(r)),
         Made::Ready(state) => begun(kept, state, work),
     }
 }
 
-// Any record, unchecked. Its steps are those of its ratios.
+// Any record, unchecked. Its steps are those of its ratios. Its kind has the first four places.
 pub fn rec(kept: Kept, values: Values) -> Change {
-    let degree = degree_at(values, 0);
-    let fixed = side_at(values, 1);
-    let current = float_at(values, 6);
-    let target = float_at(values, 7);
+    let kind = kind_in(values);
+    let fixed = side_at(values, 4);
+    let current = float_at(values, 9);
+    let target = float_at(values, 10);
     let state = State {
-        channels: count_at(values, 2),
-        chunk: count_at(values, 3),
-        chunk0: count_at(values, 4),
-        input: count_at(values, 11),
-        output: count_at(values, 12),
-        fill: count_at(values, 10),
-        index: float_at(values, 9),
-        original: float_at(values, 5),
+        channels: count_at(values, 5),
+        chunk: count_at(values, 6),
+        chunk0: count_at(values, 7),
+        input: count_at(values, 14),
+        output: count_at(values, 15),
+        fill: count_at(values, 13),
+        index: float_at(values, 12),
+        original: float_at(values, 8),
         current,
         target,
         now: state::step_of(current),
         then: state::step_of(target),
-        m: float_at(values, 8),
-        degree,
+        m: float_at(values, 11),
+        kind,
         fixed,
     };
     changed(kept, state, ok())
@@ -241,20 +258,33 @@ fn block_of(kept: Kept, outcome: BlockOutcome, output: usize) -> Change {
     changed(kept, outcome.state, said_ran(outcome, output))
 }
 
+// How many samples of the table a block is lent: a polynomial takes none.
+fn table_for(kept: Kept) -> usize {
+    let state = kept.state;
+    let kind = state.kind;
+    match kind {
+        Kind::Polynomial(_) => 0,
+        Kind::Sinc(_, _, _) => kept.table,
+    }
+}
+
 pub fn block(
     kept: Kept,
     values: Values,
     input: &[f64],
     output: &mut [f64],
     work: &mut [f64],
+    table: &[f64],
 ) -> Change {
     let a = samples_of(input, count_at(values, 2));
     let b = samples_of(output, count_at(values, 3));
     let n = samples_of(work, kept.len);
+    let t = samples_of(table, table_for(kept));
     let outcome = process::process_into_buffer(
         kept.state,
         count_at(values, 0),
         number_at(values, 1),
+        &table[..t],
         &input[..a],
         &mut output[..b],
         &mut work[..n],

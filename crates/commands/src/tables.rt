@@ -45,3 +45,21 @@ pub fn sincs(kept: Kept, values: Values, output: &mut [f64], table: &mut [f64]) 
         Built::Refused(r) => left(kept, refused(r)),
     }
 }
+
+// Any table: its samples fill `input` first, and those that are left stand in `output`.
+pub fn set_table(
+    kept: Kept,
+    values: Values,
+    input: &[f64],
+    output: &[f64],
+    table: &mut [f64],
+) -> Change {
+    let n = samples_of(table, count_at(values, 0));
+    let first = samples_of(input, n);
+    let more = samples_of(output, n - first);
+    channel::load(table, 0, &input[..first], first, first);
+    channel::load(table, first, &output[..more], more, more);
+    let mut then = kept;
+    then.table = first + more;
+    left(then, ok())
+}

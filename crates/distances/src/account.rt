@@ -112,10 +112,10 @@ fn added(a: Account, next: State, used: u64, n: u32) -> Account
     }
 }
 
-// One block of silence on one channel.
+// One block of silence on one channel. A polynomial's table is empty.
 pub fn block(a: Account, input: &[f64], output: &mut [f64], work: &mut [f64]) -> Account {
     let s = a.state;
-    let o = process::process_into_buffer(s, input.len(), 1, input, output, work);
+    let o = process::process_into_buffer(s, input.len(), 1, &input[..0], input, output, work);
     let next = o.state;
     let answer = o.answer;
     match answer {

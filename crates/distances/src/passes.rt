@@ -104,8 +104,7 @@ fn started(
     let Count::Number(most) = questions::input_frames_max(s) else {
         return;
     };
-    let degree = s.degree;
-    let n = work_length(most, asynchro_fast::nbr_points(degree));
+    let n = work_length(most, state::points_in(s));
     let opened = crate::account::opened(s);
     let a = run_on(number, opened, blocks, input, output, work, n);
     crate::report::print(number, a);

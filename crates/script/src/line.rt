@@ -4,14 +4,15 @@ use crate::reader::Word;
 use crate::reader::read_word;
 use crate::values::Values;
 use crate::words::Command;
+use crate::words::begins_sinc;
 use crate::words::command_of;
 use crate::words::kinds_of;
 use crate::words::value_of;
 use text::Parsed;
 
 // A line that is being read: the name of its command, the kinds of the words that are still to come,
-// and the numbers of the `count` words after the command, all of them right where `good` is true. `more`
-// says that another word follows, and `over` that the input had no line any more.
+// and the numbers of the words after the command, in `count` places, all of them right where `good` is true.
+// `more` says that another word follows, and `over` that the input had no line any more.
 pub struct Line {
     pub input: Input,
     pub name: u64,
@@ -23,33 +24,49 @@ pub struct Line {
     pub over: bool,
 }
 
-// The line with one word more. No command takes as many as there are places.
+// The kinds of the words that are still to come behind the first. Behind the `s` of a sinc these are its
+// points, factor and blend, and then the others, for which every command leaves room.
+fn kinds_behind(kinds: u64, sinc: bool) -> u64 {
+    let rest = kinds / 16;
+    if !sinc {
+        return rest;
+    }
+    if rest < 0x10_0000_0000_0000 {
+        return rest * 4096 + 0xadd;
+    }
+    0
+}
+
+// The line with one word more. An L has the four places that a sinc takes.
 fn with(line: Line, word: Word) -> Line {
     let input = word.input;
     let k = line.count;
-    let number = value_of(line.kinds % 16, word);
+    let kind = line.kinds % 16;
+    let number = value_of(kind, word);
+    let sinc = begins_sinc(kind, word);
     let mut then = line;
     then.input = input;
-    then.kinds = line.kinds / 16;
-    then.more = input.byte == 32;
+    then.kinds = kinds_behind(line.kinds, sinc);
+    then.more = input.byte != 10;
     then.good = false;
     if let Parsed::Number(n) = number {
         if k < 16 {
             then.values[k] = n;
-            then.count = k + 1;
+            then.count = if (kind == 11) & !sinc { k + 4 } else { k + 1 };
             then.good = line.good;
         }
     }
     then
 }
 
-// One word more; the samples of a block's output go to an area of their own.
+// One word more; the samples of a block's output go to an area of their own. The other area takes what is
+// too long for one.
 fn read_next(line: Line, buf: &mut [u8], input: &mut [f64], output: &mut [f64]) -> Line {
     let from = line.input;
     if line.kinds % 16 == 9 {
-        return with(line, read_word(buf, output, from));
+        return with(line, read_word(buf, output, input, from));
     }
-    with(line, read_word(buf, input, from))
+    with(line, read_word(buf, input, output, from))
 }
 
 // The line after its first word. It is none where that is empty and nothing can follow.
@@ -62,15 +79,15 @@ fn begun(word: Word) -> Line {
         kinds: kinds_of(name),
         count: 0,
         values: [0; 16],
-        good: true,
-        more: input.byte == 32,
+        good: input.byte != 58,
+        more: input.byte != 10,
         over: (name == 1) & !input.open,
     }
 }
 
 // The next line, read to its end: a last line without a newline is one too.
 pub fn read_line(before: Input, buf: &mut [u8], input: &mut [f64], output: &mut [f64]) -> Line {
-    let mut line = begun(read_word(buf, input, before));
+    let mut line = begun(read_word(buf, input, output, before));
     let mut more = line.more;
     let mut turns = u64::MAX;
     while turns > 0 && more {

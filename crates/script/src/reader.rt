@@ -1,4 +1,5 @@
 // Standard input, byte by byte, through a buffer that the caller lends; and its words.
+use crate::names::name_step;
 use text::Area;
 use text::Run;
 
@@ -11,14 +12,15 @@ pub struct Input {
     pub byte: u8,
 }
 
-// What a word has come to, as each thing that a word can be, and the input behind it. A name of up to
-// seven bytes is a number with a 1 before its bytes; that of a longer word is 0.
+// What a word has come to, as each thing that a word can be, and the input behind it. An area that has
+// filled the `first` samples that it is lent goes on in others, and `area` is what has come there.
 pub struct Word {
     pub input: Input,
     pub name: u64,
     pub whole: Run,
     pub bits: Run,
     pub area: Area,
+    pub first: usize,
 }
 
 pub fn start() -> Input {
@@ -68,9 +70,9 @@ pub fn read_byte(buf: &mut [u8], input: Input) -> Input {
     passed(buf, here)
 }
 
-// A space or the end of the line, which is a newline or the end of the input, stands behind a word.
+// A space, a colon or the end of the line, which is a newline or the end of the input, stands behind a word.
 fn ends_word(byte: u8) -> bool {
-    (byte == 32) | (byte == 10)
+    (byte == 32) | (byte == 58) | (byte == 10)
 }
 
 fn no_word(input: Input) -> Word {
@@ -81,40 +83,68 @@ fn no_word(input: Input) -> Word {
         whole: none,
         bits: none,
         area: Area::Start,
+        first: 0,
     }
 }
 
-// A name that was too long stays so.
-fn name_step(name: u64, byte: u8) -> u64 {
-    if name == 0 {
-        return 0;
+// One byte more of an area: its samples go to the first that are lent, and once these are full to the next.
+fn area_step(area: &mut [f64], next: &mut [f64], first: usize, read: Area, byte: u8) -> Area {
+    if first > 0 {
+        return text::area_step(next, read, byte);
     }
-    if name < 0x100_0000_0000_0000 {
-        return name * 256 + byte as u64;
-    }
-    0
+    text::area_step(area, read, byte)
 }
 
-// One byte more of a word. Its samples, if it is an area, go to the area that is lent.
-fn word_step(area: &mut [f64], word: Word, input: Input) -> Word {
+// Whether an area has all the samples that are lent.
+fn is_full(area: &[f64], read: Area) -> bool {
+    match read {
+        Area::Samples(k, run) => match run {
+            Run::Digits(count, _) => (count == 0) & (k >= area.len()),
+            Run::Bad => false,
+        },
+        _ => false,
+    }
+}
+
+// How many samples are full, 0 where some are still to come.
+fn first_after(area: &[f64], first: usize, read: Area) -> usize {
+    if first > 0 {
+        return first;
+    }
+    if is_full(area, read) { area.len() } else { 0 }
+}
+
+// What has come to the samples that are being filled: none where these are new.
+fn area_after(read: Area, begins: bool) -> Area {
+    if begins {
+        return Area::Samples(0, text::no_digits());
+    }
+    read
+}
+
+// One byte more of a word.
+fn word_step(area: &mut [f64], next: &mut [f64], word: Word, input: Input) -> Word {
     let byte = input.byte;
     let whole = word.whole;
     let bits = word.bits;
     let read = word.area;
     let whole_then = text::decimal_step(whole, byte);
     let bits_then = text::hex_step(bits, byte);
-    let area_then = text::area_step(area, read, byte);
+    let read_then = area_step(area, next, word.first, read, byte);
+    let first = first_after(area, word.first, read_then);
+    let area_then = area_after(read_then, first > word.first);
     Word {
         input,
         name: name_step(word.name, byte),
         whole: whole_then,
         bits: bits_then,
         area: area_then,
+        first,
     }
 }
 
 // One byte more, which may end the word.
-fn word_next(buf: &mut [u8], area: &mut [f64], word: Word) -> Word {
+fn word_next(buf: &mut [u8], area: &mut [f64], next: &mut [f64], word: Word) -> Word {
     let before = word.input;
     let input = read_byte(buf, before);
     if ends_word(input.byte) {
@@ -122,7 +152,7 @@ fn word_next(buf: &mut [u8], area: &mut [f64], word: Word) -> Word {
         then.input = input;
         return then;
     }
-    word_step(area, word, input)
+    word_step(area, next, word, input)
 }
 
 fn is_going(word: Word) -> bool {
@@ -131,12 +161,12 @@ fn is_going(word: Word) -> bool {
 }
 
 // Nothing says that a word ends, so the turns are counted down from a number that no run uses up.
-pub fn read_word(buf: &mut [u8], area: &mut [f64], input: Input) -> Word {
+pub fn read_word(buf: &mut [u8], area: &mut [f64], next: &mut [f64], input: Input) -> Word {
     let mut word = no_word(input);
     let mut going = true;
     let mut turns = u64::MAX;
     while turns > 0 && going {
-        word = word_next(buf, area, word);
+        word = word_next(buf, area, next, word);
         going = is_going(word);
         turns -= 1;
     }

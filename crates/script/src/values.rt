@@ -1,5 +1,7 @@
 // The numbers of a line's words, as the calls take them.
 use asynchro_fast::PolynomialDegree;
+use kinds::Kind;
+use sinc_parameters::SincInterpolationType;
 use sizes::FixedAsync;
 use windows::WindowFunction;
 
@@ -38,6 +40,32 @@ fn degree_of(l: u64) -> PolynomialDegree {
 
 pub fn degree_at(values: Values, k: usize) -> PolynomialDegree {
     degree_of(number_at(values, k))
+}
+
+fn blend_of(n: u64) -> SincInterpolationType {
+    match n {
+        1 => SincInterpolationType::Nearest,
+        2 => SincInterpolationType::Linear,
+        3 => SincInterpolationType::Quadratic,
+        _ => SincInterpolationType::Cubic,
+    }
+}
+
+pub fn blend_at(values: Values, k: usize) -> SincInterpolationType {
+    blend_of(number_at(values, k))
+}
+
+// The kind of a record, in the first four places: L of a polynomial, or 0 and a sinc's points, factor and
+// blend.
+pub fn kind_in(values: Values) -> Kind {
+    if number_at(values, 0) > 0 {
+        return Kind::Polynomial(degree_at(values, 0));
+    }
+    Kind::Sinc(
+        count_at(values, 1),
+        count_at(values, 2),
+        blend_at(values, 3),
+    )
 }
 
 pub fn side_at(values: Values, k: usize) -> FixedAsync {

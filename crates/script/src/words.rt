@@ -1,11 +1,14 @@
 // The words of the call script: which commands there are, and what each takes.
 use crate::reader::Word;
+use text::Area;
 use text::Parsed;
 
 pub enum Command {
     New,
+    NewSinc,
     Rec,
     SetArea,
+    SetTable,
     Area,
     Abs,
     Rel,
@@ -34,12 +37,14 @@ pub enum Command {
     Over,
 }
 
-// A name is its bytes after a 1.
+// A name is its bytes after a 1; one of eight bytes has no 1.
 pub fn command_of(name: u64) -> Command {
     match name {
         0x1_6e6577 => Command::New,
+        0x1_6e657773696e63 => Command::NewSinc,
         0x1_726563 => Command::Rec,
         0x1_73657461726561 => Command::SetArea,
+        0x73657474_61626c65 => Command::SetTable,
         0x1_61726561 => Command::Area,
         0x1_616273 => Command::Abs,
         0x1_72656c => Command::Rel,
@@ -69,16 +74,21 @@ pub fn command_of(name: u64) -> Command {
 // The words after a command, a hex digit for the kind of each, the last digit for the first word:
 // 1 the 16 digits of a float; 2 a whole number; 3 L, which is 1, 2, 4, 6 or 8; 4 `in` or `out`;
 // 5 `0` or `1`; 6 a number of grid points, 1 to 4; 7 a window; 8 an area; 9 the output of a block,
-// an area that is kept apart. Behind the last word stands 0.
+// an area that is kept apart; 10 a blend; 11 L, or the `s` of a sinc and a colon; 12 a table, an area that
+// may be as long as two; 13 a whole number and a colon. Behind the last word stands 0.
 pub fn kinds_of(name: u64) -> u64 {
     match name {
         // new r m L chunk channels in|out
         0x1_6e6577 => 0x422311,
+        // newsinc r m points factor blend chunk channels in|out
+        0x1_6e657773696e63 => 0x422a2211,
         // rec L in|out channels chunk construction-chunk original current target m index fill needed-in
         // needed-out
-        0x1_726563 => 0x2221111122243,
+        0x1_726563 => 0x222111112224b,
         // setarea AREA
         0x1_73657461726561 => 8,
+        // settable AREA
+        0x73657474_61626c65 => 12,
         // abs r 0|1, rel r 0|1
         0x1_616273 => 0x51,
         0x1_72656c => 0x51,
@@ -112,8 +122,9 @@ pub fn kinds_of(name: u64) -> u64 {
     }
 }
 
-// The words that have a name, `in` and `out`, `0` and `1`, and the windows b, b2, bh, bh2, h and h2 by
-// their places in the source: the tens are the word's kind, the ones its number. 0 is no such word.
+// The words that have a name, `in` and `out`, `0` and `1`, the windows b, b2, bh, bh2, h and h2 by their
+// places in the source, and the blends n, l, q and c by their grid points: the tens are the word's kind,
+// the ones its number. 0 is no such word.
 fn place_of(name: u64) -> u64 {
     match name {
         0x1_696e => 40,
@@ -126,6 +137,10 @@ fn place_of(name: u64) -> u64 {
         0x1_626832 => 73,
         0x1_68 => 74,
         0x1_6832 => 75,
+        0x1_6e => 101,
+        0x1_6c => 102,
+        0x1_71 => 103,
+        0x1_63 => 104,
         _ => 0,
     }
 }
@@ -158,16 +173,66 @@ fn counted(kind: u64, number: Parsed) -> Parsed {
     }
 }
 
-// The number of a word as its kind reads it: of an area how many samples it has.
+// The samples of an area that has gone on in others: only a table may have any there.
+fn longer(kind: u64, first: u64, more: u64) -> Parsed {
+    if more == 0 {
+        return Parsed::Number(first);
+    }
+    if kind != 12 {
+        return Parsed::Bad;
+    }
+    if more > u64::MAX - first {
+        return Parsed::Bad;
+    }
+    Parsed::Number(first + more)
+}
+
+fn samples_in(kind: u64, first: usize, area: Area) -> Parsed {
+    let Parsed::Number(more) = text::area_done(area) else {
+        return Parsed::Bad;
+    };
+    if first == 0 {
+        return Parsed::Number(more);
+    }
+    longer(kind, first as u64, more)
+}
+
+fn has_colon(word: Word) -> bool {
+    let input = word.input;
+    input.byte == 58
+}
+
+// Whether a word in the place of L is the `s` of a sinc, behind which a colon stands.
+pub fn begins_sinc(kind: u64, word: Word) -> bool {
+    (kind == 11) & (word.name == 0x1_73) & has_colon(word)
+}
+
+// The number of a word before a colon.
+fn value_before(kind: u64, word: Word) -> Parsed {
+    let whole = word.whole;
+    if begins_sinc(kind, word) {
+        return Parsed::Number(0);
+    }
+    if kind == 13 {
+        return text::decimal_done(whole);
+    }
+    Parsed::Bad
+}
+
+// The number of a word as its kind reads it: of an area how many samples it has, of the `s` of a sinc 0.
 pub fn value_of(kind: u64, word: Word) -> Parsed {
     let whole = word.whole;
     let bits = word.bits;
     let area = word.area;
+    if has_colon(word) {
+        return value_before(kind, word);
+    }
     match kind {
         1 => text::hex_done(bits),
-        2 | 3 | 6 => counted(kind, text::decimal_done(whole)),
-        4 | 5 | 7 => named(kind, word.name),
-        8 | 9 => text::area_done(area),
+        2 | 6 => counted(kind, text::decimal_done(whole)),
+        3 | 11 => counted(3, text::decimal_done(whole)),
+        4 | 5 | 7 | 10 => named(kind, word.name),
+        8 | 9 | 12 => samples_in(kind, word.first, area),
         _ => Parsed::Bad,
     }
 }

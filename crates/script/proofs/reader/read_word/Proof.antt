@@ -6,11 +6,11 @@ use Rattle.script.proofs.reader.read_word.Statement.{statement}
 use Rattle.script.proofs.reader.read_word.Tie as tie
 
 abbrev Inv-loop : tie.InvT-loop
-Inv-loop buf₀ area₀ word₀ going₀ turns₀ buf area word going turns =
-    (length buf ≡ length buf₀) × (length area ≡ length area₀)
+Inv-loop buf₀ area₀ next₀ word₀ going₀ turns₀ buf area next word going turns =
+    (length buf ≡ length buf₀) × (length area ≡ length area₀) × (length next ≡ length next₀)
 
 abbrev μ-loop : tie.MeasureT-loop
-μ-loop buf₀ area₀ word₀ going₀ turns₀ buf area word going turns = turns
+μ-loop buf₀ area₀ next₀ word₀ going₀ turns₀ buf area next word going turns = turns
 
 no-word-requires : tie.Need-no-word-requires Inv-loop μ-loop
 no-word-requires c κs = search needs
@@ -39,14 +39,20 @@ same-length c = search needs
 same-length-2 : tie.Need-same-length-2 Inv-loop μ-loop
 same-length-2 c = search needs
 
-returns : tie.Need-returns Inv-loop μ-loop
-returns c = search needs
-
 same-length-3 : tie.Need-same-length-3 Inv-loop μ-loop
 same-length-3 c = search needs
 
+returns : tie.Need-returns Inv-loop μ-loop
+returns c = search needs
+
 same-length-4 : tie.Need-same-length-4 Inv-loop μ-loop
 same-length-4 c = search needs
+
+same-length-5 : tie.Need-same-length-5 Inv-loop μ-loop
+same-length-5 c = search needs
+
+same-length-6 : tie.Need-same-length-6 Inv-loop μ-loop
+same-length-6 c = search needs
 
 returns-2 : tie.Need-returns-2 Inv-loop μ-loop
 returns-2 c = search needs
@@ -66,7 +72,9 @@ read-word-spec =
     loop-again
     same-length
     same-length-2
-    returns
     same-length-3
+    returns
     same-length-4
+    same-length-5
+    same-length-6
     returns-2)
