@@ -25,14 +25,24 @@ fn write_degree(log: i32, points: u64) -> bool {
     forms::write_form(log, &names[at..at + 7], &[])
 }
 
+// What a pass resamples by: a polynomial's degree, or a sinc's blend.
+fn write_kind(log: i32, o: Options) -> bool {
+    if o.has_sinc {
+        let name = forms::write_form(log, b"sinc ", &[]);
+        return name & options::write_blend(log, o.blend);
+    }
+    let name = forms::write_form(log, b"degree ", &[]);
+    name & write_degree(log, o.points)
+}
+
 // The head: the version, the words, and the record that they made.
 pub fn write_head(o: Options, files: Files, s: State, mask: u64) -> bool {
     let version = options::write_version(files.log);
     let name = forms::write_form(files.log, b"words ", &[]);
     let words = options::write_words(files.log);
     let ratios = [text::bits_of(s.original), text::bits_of(s.m)];
-    let first = forms::write_form(files.log, b"\nratio $ m $\ndegree ", &ratios);
-    let degree = write_degree(files.log, o.points);
+    let first = forms::write_form(files.log, b"\nratio $ m $\n", &ratios);
+    let kind = write_kind(files.log, o);
     let side = write_side(files.log, o.fixed_out);
     let sizes = [
         o.points,
@@ -46,11 +56,11 @@ pub fn write_head(o: Options, files: Files, s: State, mask: u64) -> bool {
         b" points # chunk # channels # mask # start index $\n",
         &sizes,
     );
-    version & name & words & first & degree & side & second
+    version & name & words & first & kind & side & second
 }
 
 // Where the output begins, what was cut of the blocks and what was fed behind the input.
-fn tell_cut(p: Pass, files: Files) -> bool {
+fn tell_cut(p: Pass, o: Options, files: Files) -> bool {
     let c = p.counts;
     let zeros = if c.given < c.used {
         c.used - c.given
@@ -66,12 +76,26 @@ fn tell_cut(p: Pass, files: Files) -> bool {
     if !p.started {
         return first;
     }
-    let start = [p.first_used, text::bits_of(p.first_index)];
-    let second = tell(
-        files,
-        b"the first frame written stands at # input frames used before its block and the index $\n",
-        &start,
-    );
+    let half = o.points / 2;
+    let start = [
+        p.first_used,
+        text::bits_of(p.first_index),
+        if half > 0 { half - 1 } else { 0 },
+        o.factor,
+    ];
+    let second = if o.has_sinc {
+        tell(
+            files,
+            b"the first frame written stands at # input frames used before its block, the index $, and # frames and 1/# of one up to the sinc's middle\n",
+            &start,
+        )
+    } else {
+        tell(
+            files,
+            b"the first frame written stands at # input frames used before its block and the index $\n",
+            &start,
+        )
+    };
     first & second
 }
 
@@ -188,7 +212,7 @@ fn all_reached(p: Pass, files: Files, count: usize, changes: &[u64]) -> bool {
 // What is told at the end, and whether all went well.
 pub fn ended_well(p: Pass, o: Options, files: Files, changes: &[u64]) -> bool {
     let reached = all_reached(p, files, o.changes, changes);
-    let cut = tell_cut(p, files);
+    let cut = tell_cut(p, o, files);
     let totals = tell_totals(p, files);
     let output = closed(files.output, b"resample: closing the output");
     let log = closed(files.log, b"resample: closing the log");

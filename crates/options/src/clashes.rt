@@ -20,6 +20,8 @@ const IS_PLAN: usize = 6;
 
 const IS_OUTPUT: usize = 7;
 
+const IS_TABLE: usize = 8;
+
 // Whether both are one file that writing changes: no pipe and no socket, which may be read and written.
 fn is_same(a: Facts, b: Facts) -> bool {
     let kept = (a.kind == libc::S_IFREG) | (a.kind == libc::S_IFBLK);
@@ -28,7 +30,7 @@ fn is_same(a: Facts, b: Facts) -> bool {
 
 fn say_role(k: usize) {
     say_nth(
-        b"--out names,standard output is,--log names,the log's stream is, the input, the plan, the output,",
+        b"--out names,standard output is,--log names,the log's stream is, the input, the plan, the output, the table,",
         44,
         k,
     );
@@ -63,7 +65,7 @@ pub fn log_stream(o: Options) -> i32 {
 }
 
 // Whether the output or the log is another file of the pass, before either is opened; it is told.
-pub fn has_clash(o: Options, input: Facts, plan: Facts) -> bool {
+pub fn has_clash(o: Options, input: Facts, plan: Facts, table: Facts) -> bool {
     let output = facts_in(o.output, libc::STDOUT_FILENO);
     let log = facts_in(o.log, log_stream(o));
     let by_output = role_of(o.output, OUTPUT_NAMES);
@@ -73,7 +75,9 @@ pub fn has_clash(o: Options, input: Facts, plan: Facts) -> bool {
     let c = is_told(is_same(log, input), by_log, IS_INPUT);
     let d = is_told(is_same(log, plan), by_log, IS_PLAN);
     let e = is_told(file_facts::same_file(log, output), by_log, IS_OUTPUT);
-    a | b | c | d | e
+    let f = is_told(is_same(output, table), by_output, IS_TABLE);
+    let g = is_told(is_same(log, table), by_log, IS_TABLE);
+    a | b | c | d | e | f | g
 }
 
 // Whether the log, which is open, is the output: two names of a file that was not there before.
@@ -93,5 +97,6 @@ pub fn is_status_taken(o: Options) -> bool {
     let b = is_same(status, facts_in(o.plan, -1));
     let c = is_same(status, facts_in(o.output, libc::STDOUT_FILENO));
     let d = is_same(status, facts_in(o.log, log_stream(o)));
-    a | b | c | d
+    let e = is_same(status, facts_in(o.table, -1));
+    a | b | c | d | e
 }

@@ -7,13 +7,14 @@ use crate::named::act_at;
 use crate::options::Options;
 use file_facts::Facts;
 
-// Where samples come from and go to, where the log goes, and the plan; -1 is none. `input_bytes` is
+// Where samples come from and go to, where the log goes, the plan and the table; -1 is none. `input_bytes` is
 // the input's size where it is a regular file, else 0. `good` says that each is open.
 pub struct Files {
     pub input: i32,
     pub output: i32,
     pub log: i32,
     pub plan: i32,
+    pub table: i32,
     pub log_file: bool,
     pub input_bytes: u64,
     pub good: bool,
@@ -41,12 +42,13 @@ pub fn fill_low() {
     }
 }
 
-fn files_of(input: i32, plan: i32, input_bytes: u64, good: bool) -> Files {
+fn files_of(input: i32, plan: i32, table: i32, input_bytes: u64, good: bool) -> Files {
     Files {
         input,
         output: -1,
         log: libc::STDERR_FILENO,
         plan,
+        table,
         log_file: false,
         input_bytes,
         good,
@@ -55,7 +57,7 @@ fn files_of(input: i32, plan: i32, input_bytes: u64, good: bool) -> Files {
 
 // Nothing is open: `good` says that nothing had to be.
 pub fn no_files(good: bool) -> Files {
-    files_of(libc::STDIN_FILENO, -1, 0, good)
+    files_of(libc::STDIN_FILENO, -1, -1, 0, good)
 }
 
 fn bytes_in(input: Facts) -> u64 {
@@ -84,35 +86,45 @@ pub fn open_log(o: Options, f: Files) -> Files {
         output: -1,
         log: log.fd,
         plan: f.plan,
+        table: f.table,
         log_file: log.fd != libc::STDERR_FILENO,
         input_bytes: f.input_bytes,
         good: true,
     }
 }
 
-// Input and plan are open: sees that nothing would be overwritten by accident.
-fn with_inputs(o: Options, input: i32, plan: i32) -> Files {
+// Input, plan and table are open: sees that nothing would be overwritten by accident.
+fn with_inputs(o: Options, input: i32, plan: i32, table: i32) -> Files {
     let facts = file_facts::facts_of(input);
-    if has_clash(o, facts, file_facts::facts_of(plan)) {
+    if has_clash(
+        o,
+        facts,
+        file_facts::facts_of(plan),
+        file_facts::facts_of(table),
+    ) {
         return no_files(false);
     }
-    files_of(input, plan, bytes_in(facts), true)
+    files_of(input, plan, table, bytes_in(facts), true)
 }
 
-// Opens input and plan. Where one cannot be opened, or a file that is to be written is another one, that is
-// told, and `good` is false. Tones have neither.
+// Opens input, plan and table. Where one cannot be opened, or a file that is to be written is another one, that is
+// told, and `good` is false. Tones have none.
 pub fn open_inputs(o: Options) -> Files {
     fill_low();
     if o.has_tones {
         return no_files(true);
     }
-    let place = o.plan;
+    let plan_place = o.plan;
+    let table_place = o.table;
     let input = act_at(Act::Read, o.input, libc::STDIN_FILENO);
-    let plan = act_at(Act::Read, place, -1);
-    if (input.fd < 0) | ((place.at > 0) & (plan.fd < 0)) {
+    let plan = act_at(Act::Read, plan_place, -1);
+    let table = act_at(Act::Read, table_place, -1);
+    let no_plan = (plan_place.at > 0) & (plan.fd < 0);
+    let no_table = (table_place.at > 0) & (table.fd < 0);
+    if (input.fd < 0) | no_plan | no_table {
         return no_files(false);
     }
-    with_inputs(o, input.fd, plan.fd)
+    with_inputs(o, input.fd, plan.fd, table.fd)
 }
 
 // Opens the output last.
@@ -126,6 +138,7 @@ pub fn open_output(o: Options, f: Files) -> Files {
         output: output.fd,
         log: f.log,
         plan: f.plan,
+        table: f.table,
         log_file: f.log_file,
         input_bytes: f.input_bytes,
         good: output.fd >= 0,

@@ -3,7 +3,7 @@
 pub fn write_version(fd: i32) -> bool {
     io::write_all(
         fd,
-        b"resample 1.0, the polynomial resampler of rubato 5.0.1\n",
+        b"resample 1.1, the asynchronous resampler of rubato 5.0.1\n",
     )
 }
 
@@ -27,6 +27,19 @@ channel. A word with one value can be written --name=value too.
                  its bits (x3ff4000000000000); 1/256 to 256
   --rates IN OUT two whole numbers of up to 19 digits (48000 44100)
   --degree D     nearest, linear, cubic, quintic or septic; septic unless given
+  --sinc POINTS FACTOR BLEND
+                 a windowed sinc in the place of a polynomial: an even number of
+                 POINTS, 8 to 256; FACTOR rows for each input frame, 3 to 1024;
+                 BLEND between rows is nearest, linear, quadratic or cubic. A
+                 table of up to 65536 entries (POINTS times FACTOR) is built:
+  --window W     by hann, hann2, blackman, blackman2, blackman-harris or
+                 blackman-harris2 (or h, h2, b, b2, bh, bh2); bh2 unless given
+  --cutoff C     up to C, above 0 and at most 1, of half the input's rate, in the
+                 forms of R; unless given the C that suits POINTS and W. Where R
+                 is below 1, a C that is R times lower keeps aliases out
+  --table FILE   or the table is this file, of POINTS times FACTOR samples, row 0
+                 first, as ./hazivotra table writes it: the only way to more
+                 entries, and in the place of --window and --cutoff
   --fixed S      in or out: which blocks have N frames; out unless given
   --chunk N      frames a block on the fixed side; 1024 unless given
   --mask M       bit c is 1 where channel c is switched on; all on unless given.
@@ -50,18 +63,22 @@ the frames are written whose position lies from 0 up to the input's end (with a
 margin of 2^-20 at both). The log and the last message say how many were cut at
 each end and where the first one stands. --raw cuts nothing: the first frames
 lie before the input by the delay, and the last block's input is filled up with
-zeros. A NaN is written as 7ff8000000000000, whatever NaN it was.
+zeros. A frame's position is the input frames used before its block plus its
+index; a sinc's lies POINTS/2 - 1 frames further (and 1/FACTOR of one, which is
+not counted for the cut). A NaN is written as 7ff8000000000000, whatever NaN it was.
 
 The log has the words and settings, then a line a block: the frames in and out,
 the step at its start and its increment a frame, the index it leaves, all output
-frames N and blocks B so far. An x and 16 hex digits are a float's bits.
+frames N and blocks B so far. An x and 16 hex digits are a float's bits. A sinc's
+table has a line, with the sum that ./hazivotra table prints.
 
-An output or log that is the input, the plan or the other one is refused before
-it is opened. A change that no block reached is told at the end.
+An output or log that is the input, the plan, the table or the other one is
+refused before it is opened. A change that no block reached is told at the end.
 
   resample --tones 48000 --out tones.f64
   resample --rates 48000 44100 --channels 2 --in tones.f64 --out new.f64
   resample --ratio 1 --m 4 --channels 2 --ramp 10 2 <tones.f64 >new.f64
+  resample --ratio 1.28 --channels 2 --sinc 128 256 cubic <tones.f64 >new.f64
 
 A refusal is told with its number and name. 9, Reach, comes after a steep rise
 of the ratio with --fixed in: raise it in smaller steps, or use --fixed out.

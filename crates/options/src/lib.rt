@@ -29,5 +29,8 @@ pub use messages::say_value;
 pub use options::Options;
 pub use options::Place;
 pub use status::write_status;
+pub use told::write_blend;
+pub use told::write_file_name;
+pub use told::write_window;
 pub use told::write_words;
 pub use words::read_words;

@@ -24,12 +24,16 @@ pub fn say_start() {
     say(b"resample: ");
 }
 
-// The text n of a list.
-pub fn say_nth(list: &[u8], mark: u8, n: usize) {
+// The text n of a list; whether it was written.
+pub fn write_nth(fd: i32, list: &[u8], mark: u8, n: usize) -> bool {
     let mut line = [0u8; 256];
     let at = put_nth(&mut line, list, mark, n);
     let k = bytes_of(&line, at);
-    say(&line[..k]);
+    io::write_all(fd, &line[..k])
+}
+
+pub fn say_nth(list: &[u8], mark: u8, n: usize) {
+    write_nth(libc::STDERR_FILENO, list, mark, n);
 }
 
 // What to do about a refusal, by its number.
@@ -45,7 +49,7 @@ fn say_hint(number: usize) {
 : --mask has a bit for a channel that is not there
 : the ratio rose too fast: raise it in smaller steps, or use --fixed out
 : the record is none that a call leaves
-: an argument is out of its bounds
+: --sinc takes an even number of points, 8 to 256, and a factor of 3 to 1024; --cutoff takes more than 0 and at most 1
 ",
         10,
         number,

@@ -1,6 +1,7 @@
 // What the words ask for.
 use crate::names::CHANNELS;
 use crate::names::CHUNK;
+use crate::names::CUTOFF;
 use crate::names::DEGREE;
 use crate::names::FIXED;
 use crate::names::FORCE;
@@ -14,13 +15,16 @@ use crate::names::PLAN;
 use crate::names::RATIO;
 use crate::names::RAW;
 use crate::names::SHORT_HELP;
+use crate::names::SINC;
 use crate::names::STATUS;
+use crate::names::TABLE;
 use crate::names::TONES;
 use crate::names::VERSION;
+use crate::names::WINDOW;
 use crate::reading::Reading;
+use crate::slots::behind;
 use crate::slots::has;
 use crate::slots::slot_or;
-use crate::slots::start_of;
 
 // Where a file is named: the word's place, and where the name begins in it. `at` is 0 where none is
 // named, or `-`.
@@ -29,11 +33,19 @@ pub struct Place {
     pub from: usize,
 }
 
-// `good` is false where a word was bad. `seen` has the bit of each name that was given.
+// `good` is false where a word was bad. `seen` has the bit of each name that was given. The points are those
+// of the degree or of the sinc; blends and windows have their numbers in the lists of names.
 pub struct Options {
     pub ratio: f64,
     pub m: f64,
     pub points: u64,
+    pub has_sinc: bool,
+    pub factor: u64,
+    pub blend: u64,
+    pub cutoff: f64,
+    pub has_cutoff: bool,
+    pub window: u64,
+    pub table: Place,
     pub chunk: usize,
     pub fixed_out: bool,
     pub channels: usize,
@@ -62,7 +74,7 @@ fn as_count(n: u64) -> usize {
 fn place_of(slots: &[u64], seen: u64, name: usize) -> Place {
     Place {
         at: as_count(slot_or(slots, seen, name, 0)),
-        from: as_count(start_of(slots, name)),
+        from: as_count(behind(slots, name, 32)),
     }
 }
 
@@ -77,14 +89,31 @@ fn points_of(degree: u64) -> u64 {
     }
 }
 
-// All that was read, and what holds otherwise: m 2, chunk 1024, septic, fixed out, one channel. The ratio
-// stands in its slot whether --ratio or --rates gave it.
+// The short name of a window stands 6 places behind its long one.
+fn window_of(n: u64) -> u64 {
+    if n > 6 { n - 6 } else { n }
+}
+
+// All that was read, and what holds otherwise: m 2, chunk 1024, septic, the window blackman-harris2, fixed
+// out, one channel. The ratio stands in its slot whether --ratio or --rates gave it.
 pub fn options_of(r: Reading, slots: &[u64]) -> Options {
     let seen = r.seen;
     Options {
         ratio: text::of_bits(slot_or(slots, 1 << RATIO, RATIO, 0)),
         m: text::of_bits(slot_or(slots, seen, M, 0x4000_0000_0000_0000)),
-        points: points_of(slot_or(slots, seen, DEGREE, 5)),
+        points: slot_or(
+            slots,
+            seen,
+            SINC,
+            points_of(slot_or(slots, seen, DEGREE, 5)),
+        ),
+        has_sinc: has(seen, SINC),
+        factor: behind(slots, SINC, 32),
+        blend: behind(slots, SINC, 64),
+        cutoff: text::of_bits(slot_or(slots, seen, CUTOFF, 0)),
+        has_cutoff: has(seen, CUTOFF),
+        window: window_of(slot_or(slots, seen, WINDOW, 6)),
+        table: place_of(slots, seen, TABLE),
         chunk: as_count(slot_or(slots, seen, CHUNK, 1024)),
         fixed_out: slot_or(slots, seen, FIXED, 2) == 2,
         channels: as_count(slot_or(slots, seen, CHANNELS, 1)),

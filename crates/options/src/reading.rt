@@ -1,20 +1,26 @@
 // A name and the words behind it.
 use crate::lists::number_in;
 use crate::names::AT;
+use crate::names::BAD_BLEND;
 use crate::names::BAD_COUNT;
 use crate::names::BAD_DEGREE;
 use crate::names::BAD_FILE;
 use crate::names::BAD_NUMBER;
 use crate::names::BAD_RATES;
 use crate::names::BAD_SIDE;
+use crate::names::BAD_WINDOW;
+use crate::names::BLENDS;
+use crate::names::CUTOFF;
 use crate::names::DEGREE;
 use crate::names::FIXED;
 use crate::names::LOG;
-use crate::names::M;
 use crate::names::RATES;
 use crate::names::RATIO;
+use crate::names::SINC;
 use crate::names::TONES;
 use crate::names::TOO_MANY;
+use crate::names::WINDOW;
+use crate::names::WINDOWS;
 use crate::names::complain;
 use crate::names::complain_of;
 use decimals::Number;
@@ -23,7 +29,7 @@ use text::Parsed;
 // What was read so far: the bit of each name that was given, the place of the next word, and how many
 // changes of the ratio. `good` is false once a word was bad. The last name, or 0, and what stands behind
 // it: a count, the bits of a float, the number of a choice; the place of a file's name and where it
-// begins in the word; a block and the bits of a ratio.
+// begins in the word; a block and the bits of a ratio; points, factor and blend.
 pub struct Reading {
     pub seen: u64,
     pub next: usize,
@@ -32,6 +38,7 @@ pub struct Reading {
     pub name: usize,
     pub first: u64,
     pub second: u64,
+    pub third: u64,
 }
 
 pub fn stopped(r: Reading) -> Reading {
@@ -62,7 +69,7 @@ fn with_number(r: Reading, name: usize, word: &[u8]) -> Reading {
     got(r, name, text::bits_of(x), 0)
 }
 
-fn with_count(r: Reading, name: usize, word: &[u8]) -> Reading {
+pub fn with_count(r: Reading, name: usize, word: &[u8]) -> Reading {
     let Parsed::Number(n) = text::decimal_of(word) else {
         return bad(r, name, BAD_COUNT, word);
     };
@@ -85,7 +92,7 @@ fn is_dash(word: &[u8]) -> bool {
 }
 
 // A file's name, which begins at `from` in the word at the place `at`. `-` is a standard stream, and
-// leaves the place 0; the plan and the status have none.
+// leaves the place 0; the plan, the table and the status have none.
 fn with_file(r: Reading, name: usize, at: usize, from: usize, word: &[u8]) -> Reading {
     if !is_dash(word) {
         return got(r, name, at as u64, from as u64);
@@ -98,7 +105,7 @@ fn with_file(r: Reading, name: usize, at: usize, from: usize, word: &[u8]) -> Re
 
 // A name with one word behind it.
 pub fn with_value(r: Reading, name: usize, at: usize, from: usize, word: &[u8]) -> Reading {
-    if name <= M {
+    if name <= CUTOFF {
         return with_number(r, name, word);
     }
     if name <= TONES {
@@ -111,6 +118,10 @@ pub fn with_value(r: Reading, name: usize, at: usize, from: usize, word: &[u8]) 
     if name == FIXED {
         let n = number_in(b"in out ", 32, word);
         return with_choice(r, name, n, BAD_SIDE, word);
+    }
+    if name == WINDOW {
+        let n = number_in(&WINDOWS, 32, word);
+        return with_choice(r, name, n, BAD_WINDOW, word);
     }
     with_file(r, name, at, from, word)
 }
@@ -142,10 +153,26 @@ fn with_change(r: Reading, name: usize, first: &[u8], second: &[u8]) -> Reading 
     s
 }
 
-// A name with two words behind it.
+// FACTOR and BLEND of `--sinc`, whose points have been read.
+fn with_sinc(r: Reading, factor: &[u8], blend: &[u8]) -> Reading {
+    let Parsed::Number(n) = text::decimal_of(factor) else {
+        return bad(r, SINC, BAD_COUNT, factor);
+    };
+    let k = number_in(&BLENDS, 32, blend);
+    let mut s = with_choice(r, SINC, k, BAD_BLEND, blend);
+    s.first = r.first;
+    s.second = n;
+    s.third = k as u64;
+    s
+}
+
+// A name with two words behind it, or behind its first one.
 pub fn with_two(r: Reading, name: usize, first: &[u8], second: &[u8]) -> Reading {
-    if name < AT {
+    if name < SINC {
         return with_rates(r, first, second);
+    }
+    if name < AT {
+        return with_sinc(r, first, second);
     }
     with_change(r, name, first, second)
 }

@@ -1,4 +1,4 @@
-// What was read, kept: two slots for each name, by its number and 32 further; and three for a change.
+// What was read, kept: three slots for each name, by its number, 32 and 64 further; and three for a change.
 use crate::names::AT;
 use crate::names::RAMP;
 use crate::reading::Reading;
@@ -11,12 +11,18 @@ pub fn has(seen: u64, name: usize) -> bool {
     (seen >> name) % 2 == 1
 }
 
-fn keep_value(slots: &mut [u64], name: usize, first: u64, second: u64) {
+fn put(slots: &mut [u64], at: usize, value: u64) {
+    if at < slots.len() {
+        slots[at] = value;
+    }
+}
+
+fn keep_value(slots: &mut [u64], r: Reading) {
+    let name = r.name;
     if name < 32 {
-        if name + 32 < slots.len() {
-            slots[name] = first;
-            slots[name + 32] = second;
-        }
+        put(slots, name, r.first);
+        put(slots, name + 32, r.second);
+        put(slots, name + 64, r.third);
     }
 }
 
@@ -40,7 +46,7 @@ pub fn keep(r: Reading, k: usize, slots: &mut [u64], changes: &mut [u64]) {
         keep_change(changes, k, r.first, r.second, r.name == RAMP);
         return;
     }
-    keep_value(slots, r.name, r.first, r.second);
+    keep_value(slots, r);
 }
 
 // What stands behind a name, or what holds where it was not given.
@@ -54,12 +60,14 @@ pub fn slot_or(slots: &[u64], seen: u64, name: usize, usual: u64) -> u64 {
     usual
 }
 
-// Where a file's name begins.
-pub fn start_of(slots: &[u64], name: usize) -> u64 {
-    if name < 32 {
-        if name + 32 < slots.len() {
-            return slots[name + 32];
-        }
+// What stands in the slot `further` behind the name's first one; 0 where there is none.
+pub fn behind(slots: &[u64], name: usize, further: usize) -> u64 {
+    if name > 64 {
+        return 0;
     }
-    0
+    if further > 64 {
+        return 0;
+    }
+    let at = name + further;
+    if at < slots.len() { slots[at] } else { 0 }
 }

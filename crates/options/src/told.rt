@@ -1,6 +1,10 @@
-// The words of the command line, for the log.
+// The words of the command line, and what they name, for the log.
+use crate::messages::write_nth;
+use crate::names::BLENDS;
 use crate::names::STATUS;
+use crate::names::WINDOWS;
 use crate::names::number_of;
+use crate::options::Place;
 use printer::bytes_of;
 use printer::put_byte;
 
@@ -78,4 +82,20 @@ pub fn write_words(fd: i32) -> bool {
         t = tell_next(fd, t, at);
     }
     t.good
+}
+
+// The names of a blend and of a window, and a file's name; whether each was written.
+pub fn write_blend(fd: i32, n: u64) -> bool {
+    write_nth(fd, &BLENDS, 32, n as usize)
+}
+
+pub fn write_window(fd: i32, n: u64) -> bool {
+    write_nth(fd, &WINDOWS, 32, n as usize)
+}
+
+pub fn write_file_name(fd: i32, p: Place) -> bool {
+    let mut word = io::buffer();
+    let n = os::arg(p.at, &mut word);
+    let start = bytes_of(&word[..n], p.from);
+    write_word(fd, 0, &word[start..n])
 }

@@ -1,20 +1,27 @@
 // Reads the words of the command line one after the other.
 use crate::names::AT;
+use crate::names::DEGREE;
 use crate::names::IDLE;
 use crate::names::LACKS_ONE;
+use crate::names::LACKS_THREE;
 use crate::names::LACKS_TWO;
 use crate::names::LOG;
 use crate::names::LOG_ON_OUTPUT;
 use crate::names::NO_RATIO;
+use crate::names::NO_SINC;
 use crate::names::NO_VALUE;
 use crate::names::RAMP;
 use crate::names::RATES;
 use crate::names::RATIO;
 use crate::names::RAW;
+use crate::names::SINC;
+use crate::names::TABLE;
 use crate::names::TOO_LONG;
 use crate::names::TWICE;
+use crate::names::TWO_KINDS;
 use crate::names::TWO_RATIOS;
 use crate::names::UNKNOWN;
+use crate::names::WITH_TABLE;
 use crate::names::complain;
 use crate::names::complain_of;
 use crate::names::number_of;
@@ -22,6 +29,7 @@ use crate::options::Options;
 use crate::options::options_of;
 use crate::reading::Reading;
 use crate::reading::stopped;
+use crate::reading::with_count;
 use crate::reading::with_two;
 use crate::reading::with_value;
 use crate::slots::has;
@@ -76,16 +84,21 @@ fn read_one(r: Reading, name: usize) -> Reading {
     with_value(given(r, name, 2), name, at, 0, &word[..n])
 }
 
+// The complaint where one of several words is missing.
+fn lacks(name: usize) -> usize {
+    if name == SINC { LACKS_THREE } else { LACKS_TWO }
+}
+
 // The second word, where there is a first one.
 fn read_second(r: Reading, name: usize, error: i32, first: &[u8]) -> Reading {
     if error != 0 {
-        return lacking(r, name, LACKS_TWO);
+        return lacking(r, name, lacks(name));
     }
     let mut word = io::buffer();
     let n = os::arg(past(r.next, 2), &mut word);
     let error = os::errno();
     if is_none(0, first) | is_none(error, &word[..n]) {
-        return lacking(r, name, LACKS_TWO);
+        return lacking(r, name, lacks(name));
     }
     with_two(given(r, name, 3), name, first, &word[..n])
 }
@@ -97,10 +110,30 @@ fn read_two(r: Reading, name: usize) -> Reading {
     read_second(r, name, error, &word[..n])
 }
 
+// `--sinc POINTS FACTOR BLEND`: the points, and the two words behind them.
+fn read_sinc(r: Reading) -> Reading {
+    let mut word = io::buffer();
+    let at = past(r.next, 1);
+    let n = os::arg(at, &mut word);
+    let error = os::errno();
+    if is_none(error, &word[..n]) {
+        return lacking(r, SINC, LACKS_THREE);
+    }
+    let mut s = with_count(r, SINC, &word[..n]);
+    if !s.good {
+        return s;
+    }
+    s.next = at;
+    read_two(s, SINC)
+}
+
 // A name that stands by itself, and the words that it takes.
 fn read_values(r: Reading, name: usize) -> Reading {
     if name >= RAW {
         return given(r, name, 1);
+    }
+    if name == SINC {
+        return read_sinc(r);
     }
     if name >= RATES {
         return read_two(r, name);
@@ -164,6 +197,7 @@ fn read_all(slots: &mut [u64], changes: &mut [u64]) -> Reading {
         name: 0,
         first: 0,
         second: 0,
+        third: 0,
     };
     let count = os::arg_count();
     let mut turns: u64 = 1048576;
@@ -182,11 +216,37 @@ fn wide(n: u32) -> usize {
 
 // With --tones nothing goes but --out, --status and --force.
 fn fits_tones(seen: u64) -> bool {
-    let idle = seen & 0x3dbbe;
+    let idle = seen & 0x3eef7e;
     if idle == 0 {
         return true;
     }
     complain(wide(u64::trailing_zeros(idle)), IDLE);
+    false
+}
+
+// A pass has a sinc or a degree; what helps to build a table wants a sinc, and no table. Whether that holds.
+fn fits_kind(seen: u64) -> bool {
+    let sinc = has(seen, SINC);
+    let table = has(seen, TABLE);
+    if sinc & has(seen, DEGREE) {
+        complain(SINC, TWO_KINDS);
+        return false;
+    }
+    let barred = if !sinc {
+        0x8408
+    } else if table {
+        0x408
+    } else {
+        0
+    };
+    let idle = seen & barred;
+    if idle == 0 {
+        return true;
+    }
+    complain(
+        wide(u64::trailing_zeros(idle)),
+        if sinc { WITH_TABLE } else { NO_SINC },
+    );
     false
 }
 
@@ -207,7 +267,7 @@ fn fits_pass(o: Options) -> bool {
         complain(LOG, LOG_ON_OUTPUT);
         return false;
     }
-    true
+    fits_kind(seen)
 }
 
 // Whether the words go together.
@@ -226,7 +286,7 @@ fn fits(o: Options) -> bool {
 
 // What the words ask for. What is wrong with them is told.
 pub fn read_words(changes: &mut [u64]) -> Options {
-    let mut slots = [0u64; 64];
+    let mut slots = [0u64; 96];
     let r = read_all(&mut slots, changes);
     let mut o = options_of(r, &slots);
     let good = fits(o);

@@ -1,6 +1,7 @@
 // Samples in, samples out, at another rate: the words of the command line say how (`--help`).
 mod run;
 mod setup;
+mod table;
 mod tones;
 
 use blocks::Reading;
@@ -18,6 +19,7 @@ fn pass_over(
     o: Options,
     files: Files,
     changes: &[u64],
+    table: &[f64],
     held: &mut [f64],
     bytes: &mut [u8],
 ) -> bool {
@@ -29,6 +31,7 @@ fn pass_over(
         o,
         files,
         changes,
+        table,
         bytes,
         &mut input,
         held,
@@ -65,12 +68,13 @@ fn tell_empty(left: usize) {
 }
 
 // The log and its head, then the output, so that no output is emptied for a log that cannot be written.
-fn opened(s: State, o: Options, files: Files) -> Files {
+fn opened(s: State, o: Options, files: Files, table: &[f64]) -> Files {
     let logged = options::open_log(o, files);
     if !logged.good {
         return logged;
     }
-    if !course::write_head(o, logged, s, setup::mask_of(o)) {
+    let head = course::write_head(o, logged, s, setup::mask_of(o));
+    if !(head & table::write_line(o, logged.log, table)) {
         os::fail(b"resample: writing the log");
         return options::no_files(false);
     }
@@ -84,10 +88,11 @@ fn begin(
     read: Files,
     r: Reading,
     changes: &[u64],
+    table: &[f64],
     held: &mut [f64],
     bytes: &mut [u8],
 ) -> bool {
-    let files = opened(s, o, read);
+    let files = opened(s, o, read, table);
     if !files.good {
         return false;
     }
@@ -96,13 +101,17 @@ fn begin(
         return false;
     }
     let p = setup::first_pass(setup::mask_of(o), files, bytes);
-    pass_over(course::run_of(s, p), o, files, changes, held, bytes)
+    pass_over(course::run_of(s, p), o, files, changes, table, held, bytes)
 }
 
-// The pass of a record. The input's first frame and the plan are looked at before anything is written.
-fn pass_of(s: State, o: Options, changes: &[u64]) -> bool {
+// The pass of a record. The table is made, and the input's first frame and the plan are looked at, before
+// anything is written.
+fn pass_of(s: State, o: Options, changes: &[u64], table: &mut [f64]) -> bool {
     let files = options::open_inputs(o);
     if !files.good {
+        return false;
+    }
+    if !table::is_made(o, files.table, table) {
         return false;
     }
     let mut bytes = [0u8; 1024];
@@ -114,9 +123,10 @@ fn pass_of(s: State, o: Options, changes: &[u64]) -> bool {
     if !input_holds(r, o.force) {
         return false;
     }
-    begin(s, o, files, r, changes, &mut held, &mut bytes)
+    begin(s, o, files, r, changes, table, &mut held, &mut bytes)
 }
 
+// A table has up to 262,144 entries; a polynomial has none.
 fn pass_on(o: Options, changes: &[u64]) -> bool {
     let Made::Ready(s) = setup::made_told(o) else {
         return false;
@@ -124,7 +134,9 @@ fn pass_on(o: Options, changes: &[u64]) -> bool {
     if !setup::is_ready(s, setup::mask_of(o), 131072) {
         return false;
     }
-    pass_of(s, o, changes)
+    let mut area = [0.0; 262144];
+    let n = printer::samples_of(&area, table::entries_of(o));
+    pass_of(s, o, changes, &mut area[..n])
 }
 
 fn tones_on(o: Options) -> bool {

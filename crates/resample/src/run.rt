@@ -13,6 +13,7 @@ use course::stop_told;
 use course::stopped;
 use course::tell;
 use cut::KeptFrames;
+use kinds::Kind;
 use options::Files;
 use options::Options;
 use process::BlockOutcome;
@@ -57,12 +58,28 @@ fn whole_block(s: State) -> KeptFrames {
     }
 }
 
+// The whole input frames from a frame's index to the frame itself: a sinc is summed from its index on, and its
+// middle lies points/2 - 1 frames, and 1/factor of one, behind it.
+fn ahead(kind: Kind) -> u64 {
+    match kind {
+        Kind::Polynomial(_) => 0,
+        Kind::Sinc(points, _, _) => {
+            if points >= 2 {
+                (points / 2 - 1) as u64
+            } else {
+                0
+            }
+        }
+    }
+}
+
 // The frames of a block that are written. `ended` says that the input is over behind `total` frames.
 fn kept_of(s: State, raw: bool, used: u64, ended: bool, total: u64) -> KeptFrames {
     if raw {
         return whole_block(s);
     }
-    cut::kept(s, used, ended, total)
+    let kind = s.kind;
+    cut::kept(s, tally::plus(used, ahead(kind)), ended, total)
 }
 
 // The line of a block: s is the record before it.
@@ -185,11 +202,12 @@ fn ran(
     r: Reading,
     raw: bool,
     files: Files,
+    table: &[f64],
     input: &[f64],
     output: &mut [f64],
     work: &mut [f64],
 ) -> Run {
-    let outcome = lent::run_block(s, r.frames, p.mask, input, output, work);
+    let outcome = lent::run_block(s, r.frames, p.mask, table, input, output, work);
     answered(p, s, outcome, r, raw, files, output)
 }
 
@@ -199,6 +217,7 @@ fn block(
     s: State,
     raw: bool,
     files: Files,
+    table: &[f64],
     input: &mut [f64],
     held: &mut [f64],
     output: &mut [f64],
@@ -212,7 +231,7 @@ fn block(
     if raw & q.ended & (r.frames == 0) & (s.input > 0) {
         return run_of(s, finished(q));
     }
-    ran(q, s, r, raw, files, input, output, work)
+    ran(q, s, r, raw, files, table, input, output, work)
 }
 
 fn too_large(p: Pass, files: Files) -> Pass {
@@ -224,18 +243,17 @@ fn too_large(p: Pass, files: Files) -> Pass {
     )
 }
 
-fn turn(
-    before: Run,
-    o: Options,
+// The next block, where the changes before it did not stop the pass and the areas hold it.
+fn next_block(
+    run: Run,
+    raw: bool,
     files: Files,
-    changes: &[u64],
-    bytes: &mut [u8],
+    table: &[f64],
     input: &mut [f64],
     held: &mut [f64],
     output: &mut [f64],
     work: &mut [f64],
 ) -> Run {
-    let run = before_block(before, files, o.changes, changes, bytes);
     let s = run.state;
     let p = run.pass;
     if !p.going {
@@ -244,7 +262,23 @@ fn turn(
     if lent::area_length(s.channels, s.output) > output.len() {
         return run_of(s, too_large(p, files));
     }
-    block(p, s, o.raw, files, input, held, output, work)
+    block(p, s, raw, files, table, input, held, output, work)
+}
+
+fn turn(
+    before: Run,
+    o: Options,
+    files: Files,
+    changes: &[u64],
+    table: &[f64],
+    bytes: &mut [u8],
+    input: &mut [f64],
+    held: &mut [f64],
+    output: &mut [f64],
+    work: &mut [f64],
+) -> Run {
+    let run = before_block(before, files, o.changes, changes, bytes);
+    next_block(run, o.raw, files, table, input, held, output, work)
 }
 
 // Nothing says that the input ends, so the turns are counted down from a number that no pass uses up.
@@ -253,6 +287,7 @@ pub fn turns(
     o: Options,
     files: Files,
     changes: &[u64],
+    table: &[f64],
     bytes: &mut [u8],
     input: &mut [f64],
     held: &mut [f64],
@@ -262,7 +297,18 @@ pub fn turns(
     let mut run = first;
     let mut left = u64::MAX;
     while left > 0 && is_going(run) {
-        run = turn(run, o, files, changes, bytes, input, held, output, work);
+        run = turn(
+            run,
+            o,
+            files,
+            changes,
+            table,
+            bytes,
+            input,
+            held,
+            output,
+            work,
+        );
         left -= 1;
     }
     run.pass

@@ -5,11 +5,13 @@ use course::next_line;
 use course::no_plan;
 use course::second_now;
 use error::Refusal;
+use kinds::Kind;
 use options::Files;
 use options::Options;
 use options::say;
 use options::say_refused;
 use options::say_start;
+use sinc_parameters::SincInterpolationType;
 use sizes::FixedAsync;
 use state::Made;
 use state::State;
@@ -24,6 +26,23 @@ fn degree_of(points: u64) -> PolynomialDegree {
     }
 }
 
+// The blends have the numbers 1 to 4.
+fn blend_of(n: u64) -> SincInterpolationType {
+    match n {
+        1 => SincInterpolationType::Nearest,
+        2 => SincInterpolationType::Linear,
+        3 => SincInterpolationType::Quadratic,
+        _ => SincInterpolationType::Cubic,
+    }
+}
+
+fn kind_of(o: Options) -> Kind {
+    if o.has_sinc {
+        return Kind::Sinc(o.points as usize, o.factor as usize, blend_of(o.blend));
+    }
+    Kind::Polynomial(degree_of(o.points))
+}
+
 fn side_of(fixed_out: bool) -> FixedAsync {
     if fixed_out {
         FixedAsync::Output
@@ -33,10 +52,10 @@ fn side_of(fixed_out: bool) -> FixedAsync {
 }
 
 fn made(o: Options) -> Made {
-    asynchro::new_poly(
+    asynchro::new_kind(
         o.ratio,
         o.m,
-        degree_of(o.points),
+        kind_of(o),
         o.chunk,
         o.channels,
         side_of(o.fixed_out),

@@ -6,10 +6,10 @@ use Rattle.resample.proofs.run.turns.Statement.{statement}
 use Rattle.resample.proofs.run.turns.Tie as tie
 
 abbrev Inv-loop : tie.InvT-loop
-Inv-loop o files changes bytes₀ input₀ held₀ output₀ work₀ run₀ left₀ bytes input held output work run left = (length bytes ≡ length bytes₀) × (length input ≡ length input₀) × (length held ≡ length held₀) × (length output ≡ length output₀) × (length work ≡ length work₀)
+Inv-loop o files changes table bytes₀ input₀ held₀ output₀ work₀ run₀ left₀ bytes input held output work run left = (length bytes ≡ length bytes₀) × (length input ≡ length input₀) × (length held ≡ length held₀) × (length output ≡ length output₀) × (length work ≡ length work₀)
 
 abbrev μ-loop : tie.MeasureT-loop
-μ-loop o files changes bytes₀ input₀ held₀ output₀ work₀ run₀ left₀ bytes input held output work run left = left
+μ-loop o files changes table bytes₀ input₀ held₀ output₀ work₀ run₀ left₀ bytes input held output work run left = left
 
 loop-holds : tie.Need-loop-holds Inv-loop μ-loop
 loop-holds c = search needs
