@@ -42,7 +42,33 @@ impl Async<f64> {
 
     /// A resampler with any record in it; the buffer is zeros of the length that construction gives.
     pub fn with_fields(f: &Fields, degree: PolynomialDegree, fixed: FixedAsync) -> Self {
-        let points = degree.nbr_points();
+        Self::with_inner(f, Box::new(InnerPoly { interpolation: degree, _phantom: PhantomData }), fixed)
+    }
+
+    /// The same with the crate's own sinc run; `plain` is its interpolator without vectors, else it is the
+    /// one that the crate picks on this machine. The points are a multiple of 8.
+    #[allow(clippy::too_many_arguments)]
+    pub fn sinc_with_fields(
+        f: &Fields,
+        points: usize,
+        factor: usize,
+        cutoff: f32,
+        window: crate::WindowFunction,
+        blend: SincInterpolationType,
+        fixed: FixedAsync,
+        plain: bool,
+    ) -> Self {
+        let interpolator = if plain {
+            let scalar = crate::sinc_interpolator::ScalarInterpolator::new(points, factor, cutoff, window);
+            AnyInterpolator::Scalar(scalar)
+        } else {
+            make_interpolator(points, 1.0, Some(cutoff), factor, window)
+        };
+        Self::with_inner(f, Box::new(InnerSinc::new(interpolator, blend)), fixed)
+    }
+
+    fn with_inner(f: &Fields, inner: Box<dyn InnerResampler<f64>>, fixed: FixedAsync) -> Self {
+        let points = inner.nbr_points();
         let length =
             Self::calculate_max_input_size(f.chunk0, f.original, f.m, points, &fixed) + 2 * points;
         Async {
@@ -58,7 +84,7 @@ impl Async<f64> {
             target_ratio: f.target,
             max_relative_ratio: f.m,
             buffer: vec![vec![0.0; length]; f.channels],
-            inner_resampler: Box::new(InnerPoly { interpolation: degree, _phantom: PhantomData }),
+            inner_resampler: inner,
             channel_mask: vec![true; f.channels],
             fixed,
             sinc_cutoff: None,

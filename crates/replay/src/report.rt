@@ -60,7 +60,7 @@ fn print_line(word: &[u8], n: u64) {
 pub fn print(t: Tally) {
     print_line(b"answers of the crate: ", t.crates);
     print_line(b"of these the same: ", t.crates_same);
-    print_line(b"answers by document 01 alone: ", t.others);
+    print_line(b"answers by documents 01 and 02 alone: ", t.others);
     print_line(b"of these the same: ", t.others_same);
     if t.first > 0 {
         print_line(b"the first other answer is number ", t.first);
