@@ -1,6 +1,8 @@
 // What a pass keeps from block to block beside the areas: its counts, the changes before a block and the plan
-// that they come from, progress, and the log's head and end. That each function is safe and ends is proved.
+// that they come from, which frames are written, progress, and the log's head and end. That each function is
+// safe and ends is proved.
 mod changes;
+mod kept;
 mod pass;
 mod plan_file;
 mod progress;
@@ -9,6 +11,7 @@ mod report;
 pub use changes::before_block;
 pub use changes::next_line;
 pub use changes::no_plan;
+pub use kept::kept_of;
 pub use pass::Pass;
 pub use pass::Plan;
 pub use pass::Run;

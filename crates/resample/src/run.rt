@@ -6,6 +6,7 @@ use course::Run;
 use course::before_block;
 use course::finished;
 use course::is_going;
+use course::kept_of;
 use course::progressed;
 use course::refused;
 use course::run_of;
@@ -13,7 +14,6 @@ use course::stop_told;
 use course::stopped;
 use course::tell;
 use cut::KeptFrames;
-use kinds::Kind;
 use options::Files;
 use options::Options;
 use process::BlockOutcome;
@@ -42,44 +42,6 @@ fn not_read(p: Pass) -> Pass {
 fn not_logged(p: Pass) -> Pass {
     os::fail(b"resample: writing the log");
     stopped(p)
-}
-
-// All frames of a block, as --raw writes them, and the index of the first.
-fn whole_block(s: State) -> KeptFrames {
-    let start = path::Moment {
-        index: s.index,
-        step: state::step_now(s),
-    };
-    let first = path::step_index(start, plan::t_ratio_increment(s));
-    KeptFrames {
-        from: 0,
-        to: s.output,
-        index: first.index,
-    }
-}
-
-// The whole input frames from a frame's index to the frame itself: a sinc is summed from its index on, and its
-// middle lies points/2 - 1 frames, and 1/factor of one, behind it.
-fn ahead(kind: Kind) -> u64 {
-    match kind {
-        Kind::Polynomial(_) => 0,
-        Kind::Sinc(points, _, _) => {
-            if points >= 2 {
-                (points / 2 - 1) as u64
-            } else {
-                0
-            }
-        }
-    }
-}
-
-// The frames of a block that are written. `ended` says that the input is over behind `total` frames.
-fn kept_of(s: State, raw: bool, used: u64, ended: bool, total: u64) -> KeptFrames {
-    if raw {
-        return whole_block(s);
-    }
-    let kind = s.kind;
-    cut::kept(s, tally::plus(used, ahead(kind)), ended, total)
 }
 
 // The line of a block: s is the record before it.
