@@ -123,7 +123,7 @@ fn zeroed(s: State, work: &mut [f64]) -> usize {
 }
 
 pub fn made_poly(values: Values) -> Made {
-    asynchro::new_poly(
+    construction::new_poly(
         float_at(values, 0),
         float_at(values, 1),
         degree_at(values, 2),
@@ -134,7 +134,7 @@ pub fn made_poly(values: Values) -> Made {
 }
 
 pub fn made_sinc(values: Values) -> Made {
-    asynchro::new_sinc(
+    construction::new_sinc(
         float_at(values, 0),
         float_at(values, 1),
         count_at(values, 2),

@@ -115,25 +115,25 @@ fn first() -> Made {
     let r = text::of_bits(0x3f70_1010_1010_0fd0);
     let m = text::of_bits(0x3fff_c03f_f584_0cbc);
     let degree = PolynomialDegree::Nearest;
-    asynchro::new_poly(r, m, degree, 65536, 1, FixedAsync::Input)
+    construction::new_poly(r, m, degree, 65536, 1, FixedAsync::Input)
 }
 
 // An ordinary conversion, 48,000 to 44,100 a second.
 fn second() -> Made {
     let degree = PolynomialDegree::Linear;
-    asynchro::new_poly(44100.0 / 48000.0, 1.1, degree, 1024, 1, FixedAsync::Output)
+    construction::new_poly(44100.0 / 48000.0, 1.1, degree, 1024, 1, FixedAsync::Output)
 }
 
 // Ramps up and down.
 fn third() -> Made {
     let degree = PolynomialDegree::Cubic;
-    asynchro::new_poly(48000.0 / 44100.0, 2.0, degree, 1024, 1, FixedAsync::Input)
+    construction::new_poly(48000.0 / 44100.0, 2.0, degree, 1024, 1, FixedAsync::Input)
 }
 
 // Clock steering.
 fn fourth() -> Made {
     let degree = PolynomialDegree::Septic;
-    asynchro::new_poly(160.0 / 147.0, 1.05, degree, 441, 1, FixedAsync::Output)
+    construction::new_poly(160.0 / 147.0, 1.05, degree, 441, 1, FixedAsync::Output)
 }
 
 fn made(number: u64) -> Made {

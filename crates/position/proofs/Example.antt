@@ -16,7 +16,7 @@ use Rattle.sizes.specs.declared.FixedAsync.the-variants.{Output}
 use Rattle.state.specs.declared.State.{State}
 use Rattle.sizes.specs.Sizes.{startOf, sizeOf, neededInput, neededOutput, maxInput, maxOutput}
 use Rattle.state.specs.Record.{isState, updateLengths}
-use Rattle.asynchro.specs.Calls.{construct, firstLengths}
+use Rattle.construction.specs.Construction.{construct, firstLengths}
 use Rattle.kinds.specs.declared.Kind.the-variants.{Polynomial}
 use Rattle.path.specs.Path.{pathAt}
 use Rattle.path.specs.Places.{placeFrom}

@@ -16,7 +16,8 @@ use Rattle.sizes.specs.Sizes.{startOf}
 use Rattle.kinds.specs.Kinds.{kindHolds}
 use Rattle.state.specs.Record.{pointsIn, maximaHold, updateLengths}
 use Rattle.state.proofs.Checked.{check-accepted}
-use Rattle.asynchro.specs.Calls.{endOf, freshState, withFill, filled, firstLengths, construct, relativeHolds, withRatio, applied, setRatio, setRelative, withChunk, chunked, setChunk}
+use Rattle.construction.specs.Construction.{freshState, withFill, filled, firstLengths, construct}
+use Rattle.asynchro.specs.Calls.{endOf, relativeHolds, withRatio, applied, setRatio, setRelative, withChunk, chunked, setChunk}
 use Rattle.error.proofs.Ladder.{accepted, same-given}
 use Rattle.plan.specs.Plan.{workHolds, indexAfter, restored, resetting}
 use Rattle.process.specs.Block.{resetEnd}

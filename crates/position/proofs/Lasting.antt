@@ -8,7 +8,8 @@ use lib.ListN.{length}
 use Rattle.error.specs.Refusals.{Said, given, refused}
 use Rattle.state.specs.declared.State.{State}
 use Rattle.state.specs.Record.{isState}
-use Rattle.asynchro.proofs.Keeps.{ratio-keeps, relative-keeps, chunk-keeps, construct-keeps}
+use Rattle.asynchro.proofs.Keeps.{ratio-keeps, relative-keeps, chunk-keeps}
+use Rattle.construction.proofs.Keeps.{construct-keeps}
 use Rattle.plan.specs.Plan.{planned}
 use Rattle.process.specs.Block.{blockEnd}
 use Rattle.process.proofs.Keeps.{reset-leaves}

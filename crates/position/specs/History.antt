@@ -9,7 +9,8 @@ use Rattle.error.specs.Refusals.{given}
 use Rattle.kinds.specs.declared.Kind.{Kind}
 use Rattle.sizes.specs.declared.FixedAsync.{FixedAsync}
 use Rattle.state.specs.declared.State.{State}
-use Rattle.asynchro.specs.Calls.{construct, setRatio, setRelative, setChunk}
+use Rattle.construction.specs.Construction.{construct}
+use Rattle.asynchro.specs.Calls.{setRatio, setRelative, setChunk}
 use Rattle.process.specs.Block.{blockOf, resetOf}
 
 -- the record that a history starts with: an accepted construction's, or an accepted reset's of any record and working area

@@ -52,7 +52,7 @@ fn side_of(fixed_out: bool) -> FixedAsync {
 }
 
 fn made(o: Options) -> Made {
-    asynchro::new_kind(
+    construction::new_kind(
         o.ratio,
         o.m,
         kind_of(o),

@@ -18,7 +18,8 @@ use Rattle.state.specs.declared.State.{State}
 use Rattle.sizes.specs.Sizes.{sizeOf, neededInput, neededOutput, maxInput, maxOutput}
 use Rattle.state.specs.Record.{stepNow, isState, changed, updateLengths}
 use Rattle.state.proofs.Checked.{check-pass}
-use Rattle.asynchro.specs.Calls.{construct, firstLengths, setRatio}
+use Rattle.construction.specs.Construction.{construct, firstLengths}
+use Rattle.asynchro.specs.Calls.{setRatio}
 use Rattle.area.specs.Parts.{partsTo, eachPart}
 use Rattle.channel.specs.Moves.{moved, loaded}
 use Rattle.path.specs.Path.{pathAt}

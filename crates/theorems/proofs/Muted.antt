@@ -7,7 +7,7 @@ use Rattle.whole.specs.Rounded.{madeWhole}
 use Rattle.asynchro_fast.specs.Kernels.{interpOf}
 use Rattle.sizes.specs.Sizes.{sizeOf, neededInput, neededOutput, maxInput, maxOutput}
 use Rattle.state.specs.Record.{isState, updateLengths}
-use Rattle.asynchro.specs.Calls.{construct, firstLengths}
+use Rattle.construction.specs.Construction.{construct, firstLengths}
 use Rattle.area.specs.Parts.{partsTo, eachPart}
 use Rattle.area.specs.Moves.{movedAll, loadedAll}
 use Rattle.channel.specs.Moves.{moved, loaded}

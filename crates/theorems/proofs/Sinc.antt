@@ -8,7 +8,7 @@ use Rattle.grid_places.specs.Spots.{spotFrom}
 use Rattle.sinc_value.specs.Values.{sumTo}
 use Rattle.sizes.specs.Sizes.{sizeOf, neededInput, neededOutput, maxInput, maxOutput}
 use Rattle.state.specs.Record.{isState, updateLengths}
-use Rattle.asynchro.specs.Calls.{construct, firstLengths}
+use Rattle.construction.specs.Construction.{construct, firstLengths}
 use Rattle.area.specs.Parts.{partsTo, eachPart}
 use Rattle.channel.specs.Moves.{moved, loaded}
 use Rattle.path.specs.Path.{pathAt}

@@ -16,7 +16,8 @@ use Rattle.interpolation.specs.declared.Point.{Point}
 use Rattle.interpolation.specs.Grid.{nearest2, nearest4}
 use Rattle.sizes.specs.declared.FixedAsync.the-variants.{Input, Output}
 use Rattle.state.specs.declared.State.{State}
-use Rattle.asynchro.specs.Calls.{Result, construct, setRatio}
+use Rattle.construction.specs.Construction.{construct}
+use Rattle.asynchro.specs.Calls.{Result, setRatio}
 use Rattle.process.specs.declared.Sizes.{Sizes}
 use Rattle.plan.specs.Plan.{strideOf, incrementOf}
 use Rattle.process.specs.Block.{Block, blockOf}

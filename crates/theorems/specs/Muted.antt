@@ -10,7 +10,7 @@ use Rattle.asynchro_fast.specs.declared.PolynomialDegree.the-variants.{Linear}
 use Rattle.kinds.specs.declared.Kind.the-variants.{Polynomial}
 use Rattle.sizes.specs.declared.FixedAsync.the-variants.{Input}
 use Rattle.state.specs.declared.State.{State}
-use Rattle.asynchro.specs.Calls.{construct}
+use Rattle.construction.specs.Construction.{construct}
 use Rattle.process.specs.declared.Sizes.{Sizes}
 use Rattle.process.specs.Block.{Block, blockOf}
 use Rattle.theorems.specs.Bench.{wholes, zeros}

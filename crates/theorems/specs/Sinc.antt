@@ -8,7 +8,7 @@ use Rattle.sinc_parameters.specs.declared.SincInterpolationType.the-variants.{L
 use Rattle.kinds.specs.declared.Kind.the-variants.{Sinc}
 use Rattle.sizes.specs.declared.FixedAsync.the-variants.{Output}
 use Rattle.state.specs.declared.State.{State}
-use Rattle.asynchro.specs.Calls.{construct}
+use Rattle.construction.specs.Construction.{construct}
 use Rattle.process.specs.declared.Sizes.{Sizes}
 use Rattle.process.specs.Block.{Block, blockOf}
 use Rattle.theorems.specs.Bench.{Item, size, double, built, doubles, wholes, zeros}

@@ -1,11 +1,11 @@
--- `asynchro::new_kind` meets its contract: a rung of the ladder for each refusal, then the record. Assumes nothing.
+-- `construction::new_kind` meets its contract: a rung of the ladder for each refusal, then the record. Assumes nothing.
 use mathlib.Core.Path.{ap, _∙_}
 use borrow.Author.Tests.{lt-leb, le-leb}
 use borrow.Author.Needs.{needs}
 use Rattle.error.proofs.Ladder.{pass, stop, failed, passed}
-use Rattle.asynchro.specs.Calls.{freshState, construct, firstLengths}
-use Rattle.asynchro.proofs.new_kind.Statement.{statement}
-use Rattle.asynchro.proofs.new_kind.Tie as tie
+use Rattle.construction.specs.Construction.{freshState, construct, firstLengths}
+use Rattle.construction.proofs.new_kind.Statement.{statement}
+use Rattle.construction.proofs.new_kind.Tie as tie
 
 kind-holds-requires : tie.Need-kind-holds-requires
 kind-holds-requires c κs = search needs

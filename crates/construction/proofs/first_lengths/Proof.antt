@@ -1,11 +1,11 @@
--- `asynchro::first_lengths` meets its contract: refusal 6, then the fill. Assumes nothing.
+-- `construction::first_lengths` meets its contract: refusal 6, then the fill. Assumes nothing.
 use mathlib.Core.Path.{sym, ap, _∙_}
 use borrow.Author.Needs.{needs}
 use Rattle.error.proofs.Ladder.{pass, stop, failed, passed}
-use Rattle.asynchro.specs.Calls.{filled, firstLengths}
+use Rattle.construction.specs.Construction.{filled, firstLengths}
 use Rattle.state.specs.Record.{saidMade}
-use Rattle.asynchro.proofs.first_lengths.Statement.{statement}
-use Rattle.asynchro.proofs.first_lengths.Tie as tie
+use Rattle.construction.proofs.first_lengths.Statement.{statement}
+use Rattle.construction.proofs.first_lengths.Tie as tie
 
 maxima-hold-requires : tie.Need-maxima-hold-requires
 maxima-hold-requires c κs = search needs

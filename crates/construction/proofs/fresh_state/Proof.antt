@@ -1,7 +1,7 @@
--- `asynchro::fresh_state` meets its contract. Assumes nothing.
+-- `construction::fresh_state` meets its contract. Assumes nothing.
 use borrow.Author.Needs.{needs}
-use Rattle.asynchro.proofs.fresh_state.Statement.{statement}
-use Rattle.asynchro.proofs.fresh_state.Tie as tie
+use Rattle.construction.proofs.fresh_state.Statement.{statement}
+use Rattle.construction.proofs.fresh_state.Tie as tie
 
 step-of-requires : tie.Need-step-of-requires
 step-of-requires c κs = search needs

@@ -1,0 +1,2 @@
+-- Laws of construction. Assumes nothing.
+pub mod Keeps

@@ -1,0 +1,2 @@
+-- Construction. Definitions only.
+pub mod Construction
