@@ -6,8 +6,9 @@ use crate::words::{area, float, floats, hex};
 
 // The most samples of the port's working area; a construction that needs more leaves it empty.
 pub const ROOM: usize = 131_072;
-// The most entries of a table that is built.
+// The most entries of a table that is built, and of one that is put in.
 const BUILT: u128 = 65_536;
+pub const TABLE: usize = 262_144;
 
 pub const LETTERS: [&str; 4] = ["n", "l", "q", "c"];
 
@@ -24,6 +25,16 @@ pub struct Definition {
 fn refusal(r: Refused) -> String {
     let floats: String = r.1.iter().map(|x| format!(" {}", hex(*x))).collect();
     format!("ref {}{floats}", r.0)
+}
+
+// An area in the place of the one that is kept; one of more than `most` samples is no word, and changes nothing.
+fn kept(place: &mut Option<Vec<f64>>, word: &str, most: usize) -> String {
+    let xs = floats(word);
+    if xs.len() > most {
+        return "bad".into();
+    }
+    *place = Some(xs);
+    "ok".into()
 }
 
 fn blend(word: &str) -> Blend {
@@ -90,14 +101,8 @@ impl Definition {
             "new" => self.construct(&w, Kind::Polynomial(number(w[3])), 4),
             "newsinc" => self.construct(&w, Kind::Sinc { points: number(w[3]), factor: number(w[4]), blend: blend(w[5]) }, 6),
             "rec" => self.put(&w),
-            "setarea" => {
-                self.area = Some(floats(w[1]));
-                Some("ok".into())
-            }
-            "settable" => {
-                self.table = Some(floats(w[1]));
-                Some("ok".into())
-            }
+            "setarea" => Some(kept(&mut self.area, w[1], ROOM)),
+            "settable" => Some(kept(&mut self.table, w[1], TABLE)),
             "area" => self.area.as_ref().map(|xs| format!("ok {}", area(xs))),
             "sincs" => self.sincs(&w),
             _ => {

@@ -26,15 +26,14 @@ mod random;
 mod rendering;
 mod sinc_lines;
 mod words;
-use answers::Definition;
+use answers::{Definition, TABLE};
 use port::{cut, stop, Port};
 use random::Random;
 
 // The longest line and the longest answer of the list, in bytes.
 const LONGEST: usize = 1400;
-// The most samples of a table: in the list, and in the script.
+// The most samples of a table in the list.
 const SHORT: usize = 80;
-const TABLE: usize = 262_144;
 
 // The port, if there is one, and the definition beside it.
 pub struct Both {
@@ -64,8 +63,12 @@ impl Both {
         self.script.push(line.into());
         let ours = self.definition.answer(line).unwrap_or_else(|| stop(format!("the definition has no answer: {}", cut(line))));
         let word = line.split(' ').next().unwrap();
-        let refused = ours.strip_prefix("ref ").map(|rest| format!(", refused {}", rest.split(' ').next().unwrap()));
-        *self.kinds.entry(format!("{word}{}", refused.unwrap_or_default())).or_insert(0) += 1;
+        let said = match ours.strip_prefix("ref ") {
+            Some(rest) => format!(", refused {}", rest.split(' ').next().unwrap()),
+            None if ours == "bad" => ", bad".into(),
+            None => String::new(),
+        };
+        *self.kinds.entry(format!("{word}{said}")).or_insert(0) += 1;
         let Some(port) = self.port.as_mut() else { return Some(ours) };
         let answer = port.ask(line);
         if answer == ours {
