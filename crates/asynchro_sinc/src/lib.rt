@@ -1,11 +1,23 @@
-// The sinc side's small arithmetic: the blends of grid points, and what each point counts for in a
-// blend. The parameter record is in the crate sinc_parameters.
+// The sinc side's small arithmetic: which blends of grid points there are, the blends themselves, and what
+// each point counts for in one. The parameter record is in the crate sinc_parameters.
 use error::Answer;
 use error::Refusal;
 ghost use mathlib.Core.Path.{_≡_};
 ghost use Rattle.exact.specs.Samples.{lineOn, linear};
 ghost use Rattle.error.specs.Refusals.{saidAnswer};
 ghost use Rattle.asynchro_sinc.specs.Blends.{cubicOn, quadOn, sincCubic, sincQuad, blendSaid, cubicWeights, quadWeights, linWeights};
+
+// How the value between grid points is found.
+pub enum SincInterpolationType {
+    // A cubic through the four nearest grid points.
+    Cubic,
+    // A quadratic through the three nearest.
+    Quadratic,
+    // A line through the two nearest.
+    Linear,
+    // The nearest grid point itself.
+    Nearest,
+}
 
 // By powers of x: the cubic of the polynomial resampler goes by Horner and has other bits.
 pub fn cubic_on(x: f64, y0: f64, y1: f64, y2: f64, y3: f64) -> f64

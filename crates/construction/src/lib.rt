@@ -1,8 +1,8 @@
 // Construction of a ratio state. Document 01: "The ratio state", "Refusal numbers".
 use asynchro_fast::PolynomialDegree;
+use asynchro_sinc::SincInterpolationType;
 use error::Refusal;
 use kinds::Kind;
-use sinc_parameters::SincInterpolationType;
 use sizes::FixedAsync;
 use state::Made;
 use state::State;

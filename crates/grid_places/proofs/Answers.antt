@@ -16,8 +16,8 @@ use Rattle.interpolation.specs.declared.Times3.{Times3}
 use Rattle.interpolation.specs.declared.Times3.the-variants as times3
 use Rattle.interpolation.specs.declared.Times4.{Times4}
 use Rattle.interpolation.specs.declared.Times4.the-variants as times4
-use Rattle.sinc_parameters.specs.declared.SincInterpolationType.{SincInterpolationType}
-use Rattle.sinc_parameters.specs.declared.SincInterpolationType.the-variants.{Nearest, Linear, Quadratic, Cubic}
+use Rattle.asynchro_sinc.specs.declared.SincInterpolationType.{SincInterpolationType}
+use Rattle.asynchro_sinc.specs.declared.SincInterpolationType.the-variants.{Nearest, Linear, Quadratic, Cubic}
 use Rattle.grid_places.specs.declared.Spot.{Spot}
 use Rattle.grid_places.specs.declared.Spots.{Spots}
 use Rattle.grid_places.specs.declared.Spots.the-variants.{One, Two, Three, Four, Nowhere}

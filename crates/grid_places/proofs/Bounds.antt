@@ -24,8 +24,8 @@ use Rattle.interpolation.proofs.Integers.{is-same, at-is}
 use Rattle.interpolation.proofs.Points.{point-equation}
 use Rattle.interpolation.proofs.Range.{in-range, in-range-one}
 use Rattle.interpolation.proofs.Starts.{index-value, start-is}
-use Rattle.sinc_parameters.specs.declared.SincInterpolationType.{SincInterpolationType}
-use Rattle.sinc_parameters.specs.declared.SincInterpolationType.the-variants.{Nearest, Linear, Quadratic, Cubic}
+use Rattle.asynchro_sinc.specs.declared.SincInterpolationType.{SincInterpolationType}
+use Rattle.asynchro_sinc.specs.declared.SincInterpolationType.the-variants.{Nearest, Linear, Quadratic, Cubic}
 use Rattle.grid_places.specs.declared.Spot.the-variants.{Held}
 use Rattle.grid_places.specs.Spots.{within, spotFrom, spotsOf, isHeld, allHeld}
 use Rattle.grid_places.proofs.Grid.{leastOf, nearestOf, numberOf, held-range, held-middle}

@@ -16,8 +16,8 @@ use Rattle.interpolation.specs.Steps.{wholeBy}
 use Rattle.interpolation.specs.declared.Point.{Point}
 use Rattle.interpolation.proofs.Points.{point-equation}
 use Rattle.interpolation.proofs.Range.{in-range-one}
-use Rattle.sinc_parameters.specs.declared.SincInterpolationType.{SincInterpolationType}
-use Rattle.sinc_parameters.specs.declared.SincInterpolationType.the-variants.{Nearest, Linear, Quadratic, Cubic}
+use Rattle.asynchro_sinc.specs.declared.SincInterpolationType.{SincInterpolationType}
+use Rattle.asynchro_sinc.specs.declared.SincInterpolationType.the-variants.{Nearest, Linear, Quadratic, Cubic}
 use Rattle.grid_places.specs.declared.Spot.{Spot}
 use Rattle.grid_places.specs.declared.Spot.the-variants.{Held}
 use Rattle.grid_places.specs.Spots.{within, spotFrom, spotOf, gridOf, blendPlace, nth, blended, spotsSaid, spotsOf, isHeld, allHeld}

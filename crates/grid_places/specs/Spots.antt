@@ -12,8 +12,8 @@ use Rattle.whole.specs.declared.Parts.{Parts}
 use Rattle.whole.specs.Rounded.{splitOf}
 use Rattle.interpolation.specs.declared.Point.{Point}
 use Rattle.interpolation.specs.Grid.{nearest1, nearest2, nearest3, nearest4}
-use Rattle.sinc_parameters.specs.declared.SincInterpolationType.{SincInterpolationType}
-use Rattle.sinc_parameters.specs.declared.SincInterpolationType.the-variants.{Nearest, Linear, Quadratic, Cubic}
+use Rattle.asynchro_sinc.specs.declared.SincInterpolationType.{SincInterpolationType}
+use Rattle.asynchro_sinc.specs.declared.SincInterpolationType.the-variants.{Nearest, Linear, Quadratic, Cubic}
 use Rattle.grid_places.specs.declared.Spot.{Spot}
 use Rattle.grid_places.specs.declared.Spot.the-variants.{Held, Lost}
 use Rattle.grid_places.specs.declared.Spots.{Spots}

@@ -1,10 +1,10 @@
 // Where the samples of a frame's grid points lie, for a sinc. Only our own crates call these.
+use asynchro_sinc::SincInterpolationType;
 use interpolation::Point;
 use interpolation::Times1;
 use interpolation::Times2;
 use interpolation::Times3;
 use interpolation::Times4;
-use sinc_parameters::SincInterpolationType;
 ghost use mathlib.Core.Path.{_≡_};
 ghost use Prim.Native.Nat.{_<_};
 ghost use lib.Dec.{leb};

@@ -7,7 +7,7 @@ use native.Mathlib.Omega.{arith}
 use borrow.Author.Tests.{leb-true}
 use lib.Dec.{eqb, leb}
 use Rattle.asynchro_fast.proofs.Laws as degrees
-use Rattle.sinc_parameters.specs.declared.SincInterpolationType.{SincInterpolationType}
+use Rattle.asynchro_sinc.specs.declared.SincInterpolationType.{SincInterpolationType}
 use Rattle.kinds.specs.declared.Kind.{Kind}
 use Rattle.kinds.specs.declared.Kind.the-variants.{Polynomial, Sinc}
 use Rattle.kinds.specs.Kinds.{pointsOf, sincHolds, kindHolds, tableOf}

@@ -1,6 +1,6 @@
 // What a record resamples by: a polynomial, or a sinc over a lent table.
 use asynchro_fast::PolynomialDegree;
-use sinc_parameters::SincInterpolationType;
+use asynchro_sinc::SincInterpolationType;
 ghost use mathlib.Core.Path.{_≡_};
 ghost use mathlib.Core.Bool.{true};
 ghost use Rattle.kinds.specs.Kinds.{pointsOf, sincHolds, kindHolds, tableOf};

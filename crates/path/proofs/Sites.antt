@@ -5,7 +5,7 @@ use Prim.Native.Nat.{ℕ, _+_, _*_, _≤_, _<_}
 use native.Mathlib.Omega.{arith}
 use lib.Ieee.{Float}
 use Rattle.asynchro_fast.specs.declared.PolynomialDegree.{PolynomialDegree}
-use Rattle.sinc_parameters.specs.declared.SincInterpolationType.{SincInterpolationType}
+use Rattle.asynchro_sinc.specs.declared.SincInterpolationType.{SincInterpolationType}
 use Rattle.kinds.specs.declared.Kind.{Kind}
 use Rattle.kinds.specs.declared.Kind.the-variants.{Polynomial, Sinc}
 use Rattle.kinds.specs.Kinds.{pointsOf, kindHolds, tableOf}

@@ -1,7 +1,6 @@
 // Samples in, samples out, at another rate: the words of the command line say how (`--help`).
 mod run;
 mod setup;
-mod table;
 mod tones;
 
 use blocks::Reading;
@@ -74,7 +73,7 @@ fn opened(s: State, o: Options, files: Files, table: &[f64]) -> Files {
         return logged;
     }
     let head = course::write_head(o, logged, s, setup::mask_of(o));
-    if !(head & table::write_line(o, logged.log, table)) {
+    if !(head & pass_table::write_line(o, logged.log, table)) {
         os::fail(b"resample: writing the log");
         return options::no_files(false);
     }
@@ -111,7 +110,7 @@ fn pass_of(s: State, o: Options, changes: &[u64], table: &mut [f64]) -> bool {
     if !files.good {
         return false;
     }
-    if !table::is_made(o, files.table, table) {
+    if !pass_table::is_made(o, files.table, table) {
         return false;
     }
     let mut bytes = [0u8; 1024];
@@ -135,7 +134,7 @@ fn pass_on(o: Options, changes: &[u64]) -> bool {
         return false;
     }
     let mut area = [0.0; 262144];
-    let n = printer::samples_of(&area, table::entries_of(o));
+    let n = printer::samples_of(&area, pass_table::entries_of(o));
     pass_of(s, o, changes, &mut area[..n])
 }
 

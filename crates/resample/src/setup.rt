@@ -1,5 +1,6 @@
 // The record that the words ask for, and whether a pass of it can begin.
 use asynchro_fast::PolynomialDegree;
+use asynchro_sinc::SincInterpolationType;
 use course::Pass;
 use course::next_line;
 use course::no_plan;
@@ -11,7 +12,6 @@ use options::Options;
 use options::say;
 use options::say_refused;
 use options::say_start;
-use sinc_parameters::SincInterpolationType;
 use sizes::FixedAsync;
 use state::Made;
 use state::State;

@@ -1,7 +1,7 @@
 // The numbers of a line's words, as the calls take them.
 use asynchro_fast::PolynomialDegree;
+use asynchro_sinc::SincInterpolationType;
 use kinds::Kind;
-use sinc_parameters::SincInterpolationType;
 use sizes::FixedAsync;
 use windows::WindowFunction;
 

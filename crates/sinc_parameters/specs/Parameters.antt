@@ -5,8 +5,8 @@ use Rattle.windows.specs.declared.WindowFunction.{WindowFunction}
 use Rattle.windows.specs.declared.WindowFunction.the-variants.{BlackmanHarris2}
 use Rattle.sinc_parameters.specs.declared.Cutoff.{Cutoff}
 use Rattle.sinc_parameters.specs.declared.Cutoff.the-variants.{Auto, At}
-use Rattle.sinc_parameters.specs.declared.SincInterpolationType.{SincInterpolationType}
-use Rattle.sinc_parameters.specs.declared.SincInterpolationType.the-variants.{Cubic}
+use Rattle.asynchro_sinc.specs.declared.SincInterpolationType.{SincInterpolationType}
+use Rattle.asynchro_sinc.specs.declared.SincInterpolationType.the-variants.{Cubic}
 use Rattle.sinc_parameters.specs.declared.SincInterpolationParameters.{SincInterpolationParameters}
 
 -- the two that shape the filter are given; the cutoff is left automatic, the oversampling factor is 128, the interpolation cubic

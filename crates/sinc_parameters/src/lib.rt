@@ -1,21 +1,10 @@
 // The parameters of a sinc interpolation, and the setters that chain: each hands back the record with
 // one field changed. A setter of a field that is an enum puts the record together anew, since such a
 // field is not stored to by itself.
+use asynchro_sinc::SincInterpolationType;
 use windows::WindowFunction;
 ghost use mathlib.Core.Path.{_≡_};
 ghost use Rattle.sinc_parameters.specs.Parameters.{newOf, defaultOf, withSincLen, withWindow, withCutoff, withFactor, withInterpolation};
-
-// How the value between grid points is found.
-pub enum SincInterpolationType {
-    // A cubic through the four nearest grid points.
-    Cubic,
-    // A quadratic through the three nearest.
-    Quadratic,
-    // A line through the two nearest.
-    Linear,
-    // The nearest grid point itself.
-    Nearest,
-}
 
 // The relative cutoff frequency. The source has an `Option<f32>` here.
 pub enum Cutoff {

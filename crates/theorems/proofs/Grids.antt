@@ -17,8 +17,8 @@ use Rattle.error.proofs.Ladder.{both, same-given}
 use Rattle.interpolation.specs.declared.Point.{Point}
 use Rattle.interpolation.specs.Grid.{inRange, pointOf}
 use Rattle.interpolation.proofs.Points.{point-equation}
-use Rattle.sinc_parameters.specs.declared.SincInterpolationType.{SincInterpolationType}
-use Rattle.sinc_parameters.specs.declared.SincInterpolationType.the-variants.{Nearest, Linear, Quadratic, Cubic}
+use Rattle.asynchro_sinc.specs.declared.SincInterpolationType.{SincInterpolationType}
+use Rattle.asynchro_sinc.specs.declared.SincInterpolationType.the-variants.{Nearest, Linear, Quadratic, Cubic}
 use Rattle.grid_places.specs.declared.Spot.{Spot}
 use Rattle.grid_places.specs.declared.Spot.the-variants.{Held, Lost}
 use Rattle.grid_places.specs.declared.Spots.{Spots}

@@ -11,7 +11,7 @@ use lib.ListN.{length}
 use Rattle.error.specs.Refusals.{Said, given, refused, unless}
 use Rattle.error.proofs.Ladder.{pass, stop}
 use Rattle.interpolation.specs.declared.Point.{Point}
-use Rattle.sinc_parameters.specs.declared.SincInterpolationType.{SincInterpolationType}
+use Rattle.asynchro_sinc.specs.declared.SincInterpolationType.{SincInterpolationType}
 use Rattle.kinds.specs.declared.Kind.{Kind}
 use Rattle.kinds.specs.declared.Kind.the-variants.{Sinc}
 use Rattle.kinds.specs.Kinds.{sincHolds, kindHolds}

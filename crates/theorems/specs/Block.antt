@@ -11,8 +11,8 @@ use Rattle.exact.specs.Doubles.{_-f_, _*f_, count, zeroF}
 use Rattle.exact.specs.Samples.{sample, linear}
 use Rattle.exact.specs.Integers.{pairOf}
 use Rattle.error.specs.Refusals.{given}
-use Rattle.sinc_parameters.specs.declared.SincInterpolationType.{SincInterpolationType}
-use Rattle.sinc_parameters.specs.declared.SincInterpolationType.the-variants.{Nearest, Linear, Quadratic, Cubic}
+use Rattle.asynchro_sinc.specs.declared.SincInterpolationType.{SincInterpolationType}
+use Rattle.asynchro_sinc.specs.declared.SincInterpolationType.the-variants.{Nearest, Linear, Quadratic, Cubic}
 use Rattle.asynchro_sinc.specs.Blends.{sincCubic, sincQuad}
 use Rattle.interpolation.specs.declared.Point.{Point}
 use Rattle.kinds.specs.declared.Kind.{Kind}

@@ -4,7 +4,7 @@ use mathlib.Core.List.{List, [], _∷_, _++_}
 use lib.Ieee.{Float, binary64, ofBits}
 use lib.ListN.{replicate}
 use Rattle.exact.specs.Doubles.{count, zeroF, oneF}
-use Rattle.sinc_parameters.specs.declared.SincInterpolationType.the-variants.{Linear}
+use Rattle.asynchro_sinc.specs.declared.SincInterpolationType.the-variants.{Linear}
 use Rattle.kinds.specs.declared.Kind.the-variants.{Sinc}
 use Rattle.sizes.specs.declared.FixedAsync.the-variants.{Output}
 use Rattle.state.specs.declared.State.{State}

@@ -1,10 +1,10 @@
--- `resample::table::product` is safe: the product is formed where it is small. Assumes nothing.
+-- `product` is safe: the product is formed where it is small. Assumes nothing.
 use Prim.Native.Nat.{_*_, _≤_}
 use native.Mathlib.Nat.{mul-le-mul}
 use native.Mathlib.Omega.{arith}
 use borrow.Author.Needs.{needs}
-use Rattle.resample.proofs.table.product.Statement.{statement}
-use Rattle.resample.proofs.table.product.Tie as tie
+use Rattle.pass_table.proofs.product.Statement.{statement}
+use Rattle.pass_table.proofs.product.Tie as tie
 
 returns : tie.Need-returns
 returns c = search needs

@@ -1,4 +1,5 @@
-// The table of a sinc: read from a file or built, and named in the log.
+// The table of a pass by a sinc: read from a file or built, and named in the log. That each function is safe and
+// ends is proved.
 use error::Answer;
 use options::Options;
 use options::say;
