@@ -10,9 +10,10 @@ use Rattle.error.specs.Refusals.{Said, given, refused}
 use Rattle.error.proofs.Ladder.{both, join, accepted}
 use Rattle.state.specs.declared.State.{State}
 use Rattle.sizes.specs.Bounds.{isRatio, isChannels}
-use Rattle.state.specs.Record.{stepOf, isStep, isState}
+use Rattle.steps.specs.Steps.{stepOf, isStep}
+use Rattle.state.specs.Record.{isState}
 use Rattle.asynchro.specs.Calls.{endOf, relativeHolds, withRatio, applied, setRatio, setRelative, withChunk, chunked, setChunk}
-use Rattle.state.proofs.Steps.{fresh-step}
+use Rattle.steps.proofs.Steps.{fresh-step}
 use Rattle.state.proofs.Keeps.{update-keeps, counts-join}
 use Rattle.state.proofs.Valid.{Ready, tests, valid}
 use Rattle.state.proofs.Checked.{check-accepted}

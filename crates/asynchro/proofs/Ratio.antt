@@ -3,7 +3,8 @@ use mathlib.Core.Bool.{Bool, cond}
 use mathlib.Core.Path.{_≡_}
 use lib.Ieee.{Float}
 use Rattle.state.specs.declared.State.{State}
-use Rattle.state.specs.Record.{stepOf, changed}
+use Rattle.steps.specs.Steps.{stepOf}
+use Rattle.state.specs.Record.{changed}
 use Rattle.asynchro.specs.Calls.{withRatio}
 
 -- t is the step of the new ratio, b says that there is a ramp

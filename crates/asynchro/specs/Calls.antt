@@ -11,7 +11,8 @@ use Rattle.asynchro.specs.declared.Done.{Done}
 use Rattle.asynchro.specs.declared.Done.the-variants as done
 use Rattle.asynchro.specs.declared.Outcome.{Outcome}
 use Rattle.sizes.specs.Bounds.{isRatio}
-use Rattle.state.specs.Record.{stepOf, checked, changed, updateLengths}
+use Rattle.steps.specs.Steps.{stepOf}
+use Rattle.state.specs.Record.{checked, changed, updateLengths}
 
 -- What a call on a record leaves: the record, and what it says.
 pub record Result (A : Type 0) : Type 0 where

@@ -63,7 +63,7 @@ fn apply_ratio(s: State, accepted: bool, r: f64, ramp: bool) -> Made
     if !bounds::is_ratio(r) {
         return Made::Refused(Refusal::RatioBeyondPort(r));
     }
-    let step = state::step_of(r);
+    let step = steps::step_of(r);
     let mut next = s;
     next.target = r;
     next.then = step;

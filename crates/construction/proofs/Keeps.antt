@@ -20,7 +20,7 @@ use Rattle.sizes.specs.Bounds.{isRatio, isChannels, isSize}
 use Rattle.sizes.specs.Sizes.{maxInput, maxOutput, isFrames}
 use Rattle.state.specs.Record.{maxInputOf, maxOutputOf, maximaHold, isState, updateLengths}
 use Rattle.construction.specs.Construction.{freshState, withFill, filled, firstLengths, construct}
-use Rattle.state.proofs.Steps.{fresh-step}
+use Rattle.steps.proofs.Steps.{fresh-step}
 use Rattle.sizes.proofs.Start.{start-inside}
 use Rattle.sizes.proofs.Read.{counted, none-held}
 use Rattle.state.proofs.Keeps.{update-keeps, counts-join}

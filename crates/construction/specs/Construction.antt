@@ -11,7 +11,8 @@ use Rattle.sizes.specs.declared.FixedAsync.{FixedAsync}
 use Rattle.state.specs.declared.State.{State}
 use Rattle.sizes.specs.Bounds.{isRatio, isChannels}
 use Rattle.sizes.specs.Sizes.{startOf}
-use Rattle.state.specs.Record.{stepOf, maximaHold, changed, updateLengths}
+use Rattle.steps.specs.Steps.{stepOf}
+use Rattle.state.specs.Record.{maximaHold, changed, updateLengths}
 
 -- the record before its sizes are worked out
 abbrev pub freshState : Float → Float → Kind → ℕ → ℕ → FixedAsync → State

@@ -23,7 +23,7 @@ fn fresh_state(
 ) -> State
     ensures { λ s. ⌜ s ≡ freshState r m kind chunk channels fixed ⌝ }
 {
-    let step = state::step_of(r);
+    let step = steps::step_of(r);
     State {
         channels,
         chunk,

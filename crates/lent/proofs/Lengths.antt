@@ -5,8 +5,8 @@ use Prim.Native.Nat.{ℕ, _*_, _<_, _≤_}
 use borrow.Author.Tests.{le-leb, lt-leb}
 use Rattle.state.specs.declared.State.{State}
 use Rattle.state.specs.Record.{isState}
-use Rattle.plan.specs.Plan.{strideOf}
-use Rattle.plan.proofs.Shape.{work-small}
+use Rattle.shape.specs.Shape.{strideOf}
+use Rattle.shape.proofs.Shape.{work-small}
 use Rattle.lent.specs.Lent.{areaLength, workLength}
 
 module _ (channels frames : ℕ) where

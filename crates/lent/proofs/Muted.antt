@@ -20,8 +20,9 @@ use Rattle.area.specs.Parts.{partOf}
 use Rattle.area.proofs.Parts.{room}
 use Rattle.frames.proofs.Run.{ran-long}
 use Rattle.frames.proofs.Apart.{run-off}
-use Rattle.plan.specs.Plan.{strideOf, incrementOf, planned}
-use Rattle.plan.proofs.Shape.{Shaped, shaped}
+use Rattle.shape.specs.Shape.{strideOf}
+use Rattle.plan.specs.Plan.{incrementOf, planned}
+use Rattle.shape.proofs.Shape.{Shaped, shaped}
 use Rattle.process.specs.declared.Sizes.{Sizes}
 use Rattle.process.specs.Block.{workAfter, outputAfter, blockEnd}
 use Rattle.lent.specs.Lent.{areaLength, workLength, zerosOf, lentOf}

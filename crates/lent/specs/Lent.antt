@@ -8,7 +8,7 @@ use lib.ListN.{length, take, drop, replicate}
 use Rattle.exact.specs.Doubles.{zeroF}
 use Rattle.state.specs.declared.State.{State}
 use Rattle.state.specs.Record.{isState}
-use Rattle.plan.specs.Plan.{strideOf}
+use Rattle.shape.specs.Shape.{strideOf}
 use Rattle.process.specs.declared.Sizes.{Sizes}
 use Rattle.process.specs.Block.{Block, blockOf}
 

@@ -31,7 +31,7 @@ pub fn work_length(s: State) -> usize
     if !state::is_state(s) {
         return 0;
     }
-    s.channels * plan::stride_of(s)
+    s.channels * shape::stride_of(s)
 }
 
 // The block on an output of zeros.

@@ -10,13 +10,15 @@ use Rattle.error.proofs.Ladder.{both, join, accepted}
 use Rattle.sizes.specs.Bounds.{isIndex, isChannels, isChunk}
 use Rattle.sizes.proofs.Start.{start-inside}
 use Rattle.state.specs.declared.State.{State}
-use Rattle.state.specs.Record.{pointsIn, isStep, isState}
+use Rattle.steps.specs.Steps.{isStep}
+use Rattle.state.specs.Record.{pointsIn, isState}
 use Rattle.kinds.proofs.Laws.{points-few}
 use Rattle.state.proofs.Checked.{check-accepted}
-use Rattle.state.proofs.Steps.{fresh-step}
+use Rattle.steps.proofs.Steps.{fresh-step}
 use Rattle.state.proofs.Valid.{Ready, tests, valid}
 use Rattle.state.proofs.Keeps.{update-keeps}
-use Rattle.plan.specs.Plan.{workHolds, shapeHolds, reachHolds, afterBlock, planned, restored, resetting}
+use Rattle.shape.specs.Shape.{workHolds, shapeHolds}
+use Rattle.plan.specs.Plan.{reachHolds, afterBlock, planned, restored, resetting}
 
 -- ---- the block: the fill becomes the needed input, which the maximum holds; the current ratio and its step become the target's
 block-ready : (s : State) → isState s ≡ true → isIndex (afterBlock s .index) ≡ true → Ready (afterBlock s)

@@ -1,4 +1,3 @@
 -- Laws of the plan of a block and of a reset. Assumes nothing.
-pub mod Shape
 pub mod Planned
 pub mod Keeps

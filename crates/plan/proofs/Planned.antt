@@ -11,12 +11,14 @@ use Rattle.error.specs.Refusals.{Said, refused, numberOf, valuesOf}
 use Rattle.error.proofs.Ladder.{pass, stop}
 use Rattle.sizes.specs.Sizes.{startOf}
 use Rattle.state.specs.declared.State.{State}
-use Rattle.state.specs.Record.{pointsIn, stepOf, stepNow, stepThen, isState, faultOf, changed, updateLengths}
+use Rattle.steps.specs.Steps.{stepOf}
+use Rattle.state.specs.Record.{pointsIn, stepNow, stepThen, isState, faultOf, changed, updateLengths}
 use Rattle.state.proofs.Checked.{kind-of, check-stop, check-pass}
 use Rattle.kinds.specs.Kinds.{kindHolds}
 use Rattle.path.specs.Path.{pathAt}
 use Rattle.path.specs.Sites.{allReach}
-use Rattle.plan.specs.Plan.{shapeHolds, incrementOf, reachHolds, indexAfter, afterBlock, planned, restored, resetting}
+use Rattle.shape.specs.Shape.{shapeHolds}
+use Rattle.plan.specs.Plan.{incrementOf, reachHolds, indexAfter, afterBlock, planned, restored, resetting}
 
 -- ---- the ramp's increment
 pub increment-none : (s : State) → s .output ≡ 0 → zeroF ≡ incrementOf s

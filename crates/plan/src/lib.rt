@@ -8,12 +8,6 @@ ghost use mathlib.Core.Bool.{true};
 ghost use Rattle.kinds.specs.Kinds.{kindHolds};
 ghost use Rattle.state.specs.Record.{isState, saidMade};
 ghost use Rattle.plan.specs.Plan.{
-  readOf,
-  strideOf,
-  workHolds,
-  tableHolds,
-  shareHolds,
-  shapeHolds,
   incrementOf,
   reachHolds,
   indexAfter,
@@ -22,66 +16,6 @@ ghost use Rattle.plan.specs.Plan.{
   restored,
   resetting,
 };
-
-// The smaller of the given count and the needed input.
-pub fn frames_to_read(s: State, frames: usize) -> usize
-    ensures { λ r. ⌜ r ≡ readOf s frames ⌝ }
-{
-    if frames <= s.input { frames } else { s.input }
-}
-
-// Samples of one channel in the working area. The record's kind has passed its test.
-pub fn stride_of(s: State) -> usize
-    requires { ⌜ kindHolds (s .kind) ≡ true ⌝ }
-    ensures { λ r. ⌜ r ≡ strideOf s ⌝ }
-{
-    sizes::frames_of(state::max_input_of(s)) + 2 * state::points_in(s)
-}
-
-// The working area is of exactly the right length. s has passed the StateRecord test.
-fn work_holds(s: State, work: usize) -> bool
-    requires { ⌜ isState s ≡ true ⌝ }
-    ensures { λ b. ⌜ b ≡ workHolds s work ⌝ }
-{
-    work == s.channels * stride_of(s)
-}
-
-// The table is of exactly the right length.
-fn table_holds(s: State, table: usize) -> bool
-    requires { ⌜ isState s ≡ true ⌝ }
-    ensures { λ b. ⌜ b ≡ tableHolds s table ⌝ }
-{
-    let kind = s.kind;
-    table == kinds::table_length(kind)
-}
-
-// A lent area is whole shares, each of at least so many frames.
-fn share_holds(s: State, area: usize, frames: usize) -> bool
-    requires { ⌜ isState s ≡ true ⌝ }
-    ensures { λ b. ⌜ b ≡ shareHolds s area frames ⌝ }
-{
-    (area % s.channels == 0) & (frames <= area / s.channels)
-}
-
-// Refusal 8's test.
-fn validate_buffers(
-    s: State,
-    frames: usize,
-    mask: u64,
-    table: usize,
-    input: usize,
-    output: usize,
-    work: usize,
-) -> bool
-    requires { ⌜ isState s ≡ true ⌝ }
-    ensures { λ b. ⌜ b ≡ shapeHolds s frames mask table input output work ⌝ }
-{
-    share_holds(s, input, frames_to_read(s, frames))
-        & share_holds(s, output, s.output)
-        & work_holds(s, work)
-        & table_holds(s, table)
-        & channel::mask_fits(mask, s.channels)
-}
 
 // The ramp's increment, of a record that has passed the StateRecord test; 0 where there is no frame to
 // use it.
@@ -135,7 +69,7 @@ pub fn plan(
     if !state::is_state(s) {
         return Made::Refused(state::fault_of(s));
     }
-    if !validate_buffers(s, frames, mask, table, input, output, work) {
+    if !shape::validate_buffers(s, frames, mask, table, input, output, work) {
         return Made::Refused(Refusal::BufferShape);
     }
     let seen = look(s);
@@ -149,7 +83,7 @@ pub fn plan(
 fn restored_state(s: State) -> State
     ensures { λ r. ⌜ r ≡ restored s ⌝ }
 {
-    let step = state::step_of(s.original);
+    let step = steps::step_of(s.original);
     let mut next = s;
     next.chunk = s.chunk0;
     next.index = sizes::start_index(state::points_in(s));
@@ -167,7 +101,7 @@ pub fn plan_reset(s: State, work: usize) -> Made
     if !state::is_state(s) {
         return Made::Refused(state::fault_of(s));
     }
-    if !work_holds(s, work) {
+    if !shape::work_holds(s, work) {
         return Made::Refused(Refusal::BufferShape);
     }
     state::update_lengths(restored_state(s))

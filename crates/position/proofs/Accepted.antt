@@ -23,7 +23,8 @@ use Rattle.state.proofs.Valid.{valid}
 use Rattle.error.proofs.Ladder.{accepted, same-given}
 use Rattle.path.specs.Path.{pathAt}
 use Rattle.path.specs.Sites.{allReach}
-use Rattle.plan.specs.Plan.{shapeHolds, incrementOf, reachHolds, afterBlock, planned}
+use Rattle.shape.specs.Shape.{shapeHolds}
+use Rattle.plan.specs.Plan.{incrementOf, reachHolds, afterBlock, planned}
 use Rattle.position.specs.Position.{rampOf}
 use Rattle.position.proofs.Amounts.{looser}
 use Rattle.position.proofs.Tests.{holds, Double, index-of}

@@ -19,7 +19,8 @@ use Rattle.state.proofs.Checked.{check-accepted}
 use Rattle.construction.specs.Construction.{freshState, withFill, filled, firstLengths, construct}
 use Rattle.asynchro.specs.Calls.{endOf, relativeHolds, withRatio, applied, setRatio, setRelative, withChunk, chunked, setChunk}
 use Rattle.error.proofs.Ladder.{accepted, same-given}
-use Rattle.plan.specs.Plan.{workHolds, indexAfter, restored, resetting}
+use Rattle.shape.specs.Shape.{workHolds}
+use Rattle.plan.specs.Plan.{indexAfter, restored, resetting}
 use Rattle.process.specs.Block.{resetEnd}
 use Rattle.position.specs.History.{Start, constructed, restarted}
 use Rattle.position.proofs.Tests.{Double}

@@ -21,7 +21,8 @@ use Rattle.exact.proofs.Products.{div-near}
 use Rattle.exact.proofs.Running.{run-drift}
 use Rattle.sizes.specs.Bounds.{isRatio}
 use Rattle.state.specs.declared.State.{State}
-use Rattle.state.specs.Record.{stepOf, stepNow, stepThen, isState}
+use Rattle.steps.specs.Steps.{stepOf}
+use Rattle.state.specs.Record.{stepNow, stepThen, isState}
 use Rattle.state.proofs.Valid.{valid}
 use Rattle.position.proofs.Amounts.{count-exact, mag-is, mag-below}
 use Rattle.position.proofs.Tests.{holds, ratio-of}

@@ -17,7 +17,8 @@ use Rattle.error.proofs.Ladder.{accepted}
 use Rattle.area.specs.Moves.{movedAll, loadedAll}
 use Rattle.frames.specs.Run.{ranAll}
 use Rattle.process.specs.declared.Ran.the-variants as ran
-use Rattle.plan.specs.Plan.{readOf, strideOf, shapeHolds, incrementOf, planned, resetting}
+use Rattle.shape.specs.Shape.{readOf, strideOf, shapeHolds}
+use Rattle.plan.specs.Plan.{incrementOf, planned, resetting}
 use Rattle.process.specs.Block.{workAfter, outputAfter, sizesOf, blockEnd, blockOf, blockLeft, resetEnd, resetOf, resetLeft}
 
 -- ---- the second pass: the working area, then the output on it

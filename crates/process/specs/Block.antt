@@ -11,7 +11,8 @@ use Rattle.asynchro.specs.declared.Outcome.{Outcome}
 use Rattle.asynchro.specs.Calls.{saidDone}
 use Rattle.area.specs.Moves.{movedAll, loadedAll}
 use Rattle.frames.specs.Run.{ranAll}
-use Rattle.plan.specs.Plan.{readOf, strideOf, incrementOf, planned, resetting}
+use Rattle.shape.specs.Shape.{readOf, strideOf}
+use Rattle.plan.specs.Plan.{incrementOf, planned, resetting}
 use Rattle.process.specs.declared.Sizes.{Sizes}
 use Rattle.process.specs.declared.BlockOutcome.{BlockOutcome}
 use Rattle.process.specs.declared.Ran.{Ran}

@@ -9,7 +9,7 @@ ghost use mathlib.Core.Path.{_≡_};
 ghost use mathlib.Core.Bool.{true};
 ghost use lib.ListN.{length};
 ghost use Rattle.state.specs.Record.{isState};
-ghost use Rattle.plan.specs.Plan.{shapeHolds};
+ghost use Rattle.shape.specs.Shape.{shapeHolds};
 ghost use Rattle.process.specs.Block.{
   workAfter,
   outputAfter,
@@ -57,9 +57,9 @@ fn write(
     ensures written { λ _. ⌜ now (output .exit) ≡ outputAfter s mask (now (table .entry)) (workAfter s frames mask (now (input .entry)) at (now (work .entry))) to (now (output .entry)) ⌝ }
 {
     let channels = s.channels;
-    let stride = plan::stride_of(s);
+    let stride = shape::stride_of(s);
     let l2 = 2 * state::points_in(s);
-    let read = plan::frames_to_read(s, frames);
+    let read = shape::frames_to_read(s, frames);
     let share_in = input.len() / channels;
     let share_out = output.len() / channels;
     area::move_all(work, stride, channels, s.fill, l2);

@@ -1,5 +1,4 @@
 -- Laws of the state record. Assumes nothing.
-pub mod Steps
 pub mod Valid
 pub mod Checked
 pub mod Keeps

@@ -13,8 +13,9 @@ use Rattle.state.specs.declared.State.{State}
 use Rattle.sizes.specs.Bounds.{isRatio, isChannels, isChunk, isSize, isIndex}
 use Rattle.sizes.specs.Sizes.{isFrames, framesOf, sizeIs, sizeHolds}
 use Rattle.sizes.proofs.Read.{input-small, output-small, max-small, size-is, size-holds, is-frames}
-use Rattle.state.specs.Record.{pointsIn, stepOf, stepNow, stepThen, inputOf, outputOf, maxInputOf, maxOutputOf, countsHold, ratiosHold, isStep, stepsHold, maximaHold, sizesHold, isState}
-use Rattle.state.proofs.Steps.{step-is}
+use Rattle.steps.specs.Steps.{stepOf, isStep}
+use Rattle.state.specs.Record.{pointsIn, stepNow, stepThen, inputOf, outputOf, maxInputOf, maxOutputOf, countsHold, ratiosHold, stepsHold, maximaHold, sizesHold, isState}
+use Rattle.steps.proofs.Steps.{step-is}
 
 -- ---- the parts of the test: all but the needed sizes, and these
 pub record Ready (s : State) : Type 0 where

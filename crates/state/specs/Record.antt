@@ -1,14 +1,15 @@
 -- The state record: its steps and sizes, the StateRecord test, and the one end of every call. Definitions only.
-use mathlib.Core.Bool.{Bool, cond, not, _&&_}
+use mathlib.Core.Bool.{Bool, cond, _&&_}
 use mathlib.Core.List.{[]}
 use Prim.Native.Nat.{ℕ}
-use lib.Dec.{eqb, leb}
-use lib.Ieee.{Float, binary64, fits, isNan, toBits}
-use Rattle.exact.specs.Doubles.{_/f_, oneF, atLeastOne}
+use lib.Dec.{leb}
+use lib.Ieee.{Float}
+use Rattle.exact.specs.Doubles.{atLeastOne}
 use Rattle.error.specs.Refusals.{Said, given, refused, unless, numberOf, valuesOf}
 use Rattle.error.specs.declared.Refusal.{Refusal}
 use Rattle.error.specs.declared.Refusal.the-variants as refusal
 use Rattle.kinds.specs.Kinds.{pointsOf, kindHolds}
+use Rattle.steps.specs.Steps.{isStep}
 use Rattle.state.specs.declared.State.{State}
 use Rattle.sizes.specs.declared.Size.{Size}
 use Rattle.state.specs.declared.Made.{Made}
@@ -20,11 +21,7 @@ use Rattle.sizes.specs.Sizes.{neededInput, neededOutput, maxInput, maxOutput, i
 abbrev pub pointsIn : State → ℕ
 pointsIn s = pointsOf (s .kind)
 
--- Document 02, R-2: "Store 1/current and 1/target in the state record". The step of an original, current or target ratio: the one place that divides 1 by one
-abbrev pub stepOf : Float → Float
-stepOf r = oneF /f r
-
--- the stored steps, 1/r1 and 1/r2, as sizes, t and d read them
+-- Document 02, R-2: "Store 1/current and 1/target in the state record". The stored steps, 1/r1 and 1/r2, as sizes, t and d read them
 abbrev pub stepNow : State → Float
 stepNow s = s .now
 
@@ -53,10 +50,7 @@ countsHold s = isChannels (s .channels) && isChunk (s .chunk) && isChunk (s .chu
 abbrev pub ratiosHold : State → Bool
 ratiosHold s = isRatio (s .original) && isRatio (s .current) && isRatio (s .target) && atLeastOne (s .m)
 
--- R-2: "10 is also given if either stored step differs from its division", in its bits; a NaN always differs. x is a double, as every f64 of the code is, no NaN, and has the bits of r's step
-abbrev pub isStep : Float → Float → Bool
-isStep x r = fits binary64 x && not (isNan x) && eqb (toBits binary64 x) (toBits binary64 (stepOf r))
-
+-- R-2: "10 is also given if either stored step differs from its division"
 abbrev pub stepsHold : State → Bool
 stepsHold s = isStep (s .now) (s .current) && isStep (s .then) (s .target)
 

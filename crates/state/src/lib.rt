@@ -7,10 +7,8 @@ ghost use mathlib.Core.Path.{_≡_};
 ghost use mathlib.Core.Bool.{true};
 ghost use Rattle.kinds.specs.Kinds.{kindHolds};
 ghost use Rattle.state.specs.Record.{
-  stepOf,
   stepNow,
   stepThen,
-  isStep,
   pointsIn,
   inputOf,
   outputOf,
@@ -53,13 +51,6 @@ pub struct State {
 pub enum Made {
     Ready(State),
     Refused(Refusal),
-}
-
-// The step of an original, current or target ratio: the only place that divides 1 by one.
-pub fn step_of(r: f64) -> f64
-    ensures { λ t. ⌜ t ≡ stepOf r ⌝ }
-{
-    1.0 / r
 }
 
 // The stored step of the current ratio, and that of the target, for sizes, t and d: nothing is divided.
@@ -136,21 +127,10 @@ pub fn ratios_hold(s: State) -> bool
         & bounds::at_least_one(s.m)
 }
 
-// x has the bits of r's step; a NaN never has.
-fn is_step(x: f64, r: f64) -> bool
-    ensures { λ b. ⌜ b ≡ isStep x r ⌝ }
-{
-    let fresh = step_of(r);
-    if (x != x) | (fresh != fresh) {
-        return false;
-    }
-    f64::to_bits(x) == f64::to_bits(fresh)
-}
-
 pub fn steps_hold(s: State) -> bool
     ensures { λ b. ⌜ b ≡ stepsHold s ⌝ }
 {
-    is_step(s.now, s.current) & is_step(s.then, s.target)
+    steps::is_step(s.now, s.current) & steps::is_step(s.then, s.target)
 }
 
 pub fn maxima_hold(s: State) -> bool

@@ -12,8 +12,9 @@ use Rattle.area.specs.Parts.{partOf}
 use Rattle.area.specs.Moves.{movedIn, loadedIn}
 use Rattle.area.proofs.Moves.{loadedIn-apart}
 use Rattle.frames.proofs.Apart.{run-apart}
-use Rattle.plan.specs.Plan.{readOf, strideOf, incrementOf, planned}
-use Rattle.plan.proofs.Shape.{Shaped}
+use Rattle.shape.specs.Shape.{readOf, strideOf}
+use Rattle.plan.specs.Plan.{incrementOf, planned}
+use Rattle.shape.proofs.Shape.{Shaped}
 use Rattle.process.specs.Block.{workAfter, outputAfter, blockEnd, blockOf}
 use Rattle.theorems.proofs.Areas.{shape-of, work-part}
 

@@ -33,8 +33,9 @@ use Rattle.path.proofs.Inside.{path-fits}
 use Rattle.frames.specs.Run.{kernelAt, valueAt}
 use Rattle.frames.proofs.Run.{ran-long}
 use Rattle.frames.proofs.Apart.{run-off, run-frame, run-beyond}
-use Rattle.plan.specs.Plan.{readOf, strideOf, incrementOf, reachHolds, planned}
-use Rattle.plan.proofs.Shape.{Shaped, shaped}
+use Rattle.shape.specs.Shape.{readOf, strideOf}
+use Rattle.plan.specs.Plan.{incrementOf, reachHolds, planned}
+use Rattle.shape.proofs.Shape.{Shaped, shaped}
 use Rattle.process.specs.declared.Sizes.{Sizes}
 use Rattle.process.specs.Block.{Block, workAfter, outputAfter, blockEnd, blockOf}
 use Rattle.position.proofs.Accepted.{passed}

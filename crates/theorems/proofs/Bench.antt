@@ -27,7 +27,8 @@ use Rattle.path.specs.Places.{placeFrom}
 use Rattle.path.specs.Sites.{allReach}
 use Rattle.frames.specs.Run.{kernelAt, valueAt, framesTo}
 use Rattle.path.proofs.Front.{reachFrom, reach-from}
-use Rattle.plan.specs.Plan.{shapeHolds, incrementOf, reachHolds, afterBlock, planned}
+use Rattle.shape.specs.Shape.{shapeHolds}
+use Rattle.plan.specs.Plan.{incrementOf, reachHolds, afterBlock, planned}
 use Rattle.process.specs.Block.{workAfter, outputAfter, blockEnd}
 use Rattle.theorems.specs.Bench.{Case, case-1, case-2, case-3, case-4, case-5, case-6, case-7, case-8, case-9, case-10, case-11, case-12, bench, built, septicMade, silence, zeros, firstBlock, nextBlock, atRatio1, blockSaid, sixteenthF, size, double, refusal}
 use Rattle.theorems.proofs.Block.{work-stays-long}

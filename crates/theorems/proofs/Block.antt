@@ -9,7 +9,7 @@ use Rattle.error.specs.Refusals.{given}
 use Rattle.state.specs.declared.State.{State}
 use Rattle.channel.specs.Mask.{isOn}
 use Rattle.area.specs.Parts.{partOf}
-use Rattle.plan.specs.Plan.{strideOf}
+use Rattle.shape.specs.Shape.{strideOf}
 use Rattle.process.specs.declared.Sizes.{Sizes}
 use Rattle.process.specs.Block.{Block, blockOf}
 use Rattle.theorems.specs.Block.{Frame, shifted, refreshed}

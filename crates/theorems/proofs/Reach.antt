@@ -21,7 +21,8 @@ use Rattle.state.specs.declared.State.{State}
 use Rattle.state.specs.Record.{inputOf, outputOf, maxInputOf, isState, updateLengths}
 use Rattle.state.proofs.Checked.{kind-of, check-pass, rung, check-else}
 use Rattle.sizes.specs.Sizes.{framesOf, isFrames, sizeHolds}
-use Rattle.plan.specs.Plan.{shapeHolds, reachHolds, afterBlock, planned}
+use Rattle.shape.specs.Shape.{shapeHolds}
+use Rattle.plan.specs.Plan.{reachHolds, afterBlock, planned}
 use Rattle.process.specs.Block.{blockEnd, blockOf}
 use Rattle.theorems.specs.Block.{indexAt, SomeOutside}
 use Rattle.theorems.proofs.Indices.{index-range, some-outside, outside-some}

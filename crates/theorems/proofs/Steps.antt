@@ -8,7 +8,8 @@ use Rattle.error.specs.Refusals.{unless}
 use Rattle.whole.specs.Rounded.{madeWhole}
 use Rattle.sizes.specs.Sizes.{startOf, sizeOf, neededInput, neededOutput, maxInput, maxOutput}
 use Rattle.state.specs.declared.State.{State}
-use Rattle.state.specs.Record.{stepOf, isState, changed, updateLengths}
+use Rattle.steps.specs.Steps.{stepOf}
+use Rattle.state.specs.Record.{isState, changed, updateLengths}
 use Rattle.state.proofs.Valid.{valid}
 use Rattle.asynchro.specs.Calls.{setRatio}
 use Rattle.path.specs.Path.{pathAt}

@@ -19,7 +19,8 @@ use Rattle.state.specs.declared.State.{State}
 use Rattle.construction.specs.Construction.{construct}
 use Rattle.asynchro.specs.Calls.{Result, setRatio}
 use Rattle.process.specs.declared.Sizes.{Sizes}
-use Rattle.plan.specs.Plan.{strideOf, incrementOf}
+use Rattle.shape.specs.Shape.{strideOf}
+use Rattle.plan.specs.Plan.{incrementOf}
 use Rattle.process.specs.Block.{Block, blockOf}
 
 -- what a case speaks of: sizes, doubles, grid points, refusals

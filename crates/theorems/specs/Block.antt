@@ -28,7 +28,8 @@ use Rattle.asynchro_fast.specs.Kernels.{interpOf}
 use Rattle.state.specs.declared.State.{State}
 use Rattle.state.specs.Record.{pointsIn, stepNow}
 use Rattle.path.specs.Path.{pathAt}
-use Rattle.plan.specs.Plan.{readOf, incrementOf}
+use Rattle.shape.specs.Shape.{readOf}
+use Rattle.plan.specs.Plan.{incrementOf}
 
 -- k is floor(x): k ≤ x < k + 1
 pub record Floor (x : Float) (k : Whole) : Type 0 where

@@ -1,4 +1,4 @@
--- `product` is safe: the product is formed where it is small. Assumes nothing.
+-- `pass_table::product` is safe: the product is formed where it is small. Assumes nothing.
 use Prim.Native.Nat.{_*_, _≤_}
 use native.Mathlib.Nat.{mul-le-mul}
 use native.Mathlib.Omega.{arith}

@@ -4,7 +4,7 @@ use borrow.Author.Needs.{needs}
 use denote.Ref.{now}
 use Rattle.state.proofs.Checked.{kind-of}
 use Rattle.state.proofs.Valid.{valid}
-use Rattle.plan.proofs.Shape.{shaped, move-asks, load-asks, run-asks}
+use Rattle.shape.proofs.Shape.{shaped, move-asks, load-asks, run-asks}
 use Rattle.process.proofs.Written.{written}
 use Rattle.process.proofs.write.Statement.{statement}
 use Rattle.process.proofs.write.Tie as tie

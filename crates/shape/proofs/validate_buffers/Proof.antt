@@ -1,10 +1,10 @@
--- `plan::validate_buffers` meets its contract. Assumes nothing.
+-- `shape::validate_buffers` meets its contract. Assumes nothing.
 use native.Mathlib.Omega.{arith}
 use borrow.Author.Needs.{needs}
 use Rattle.state.proofs.Valid.{valid}
-use Rattle.plan.proofs.Shape.{shape-is}
-use Rattle.plan.proofs.validate_buffers.Statement.{statement}
-use Rattle.plan.proofs.validate_buffers.Tie as tie
+use Rattle.shape.proofs.Shape.{shape-is}
+use Rattle.shape.proofs.validate_buffers.Statement.{statement}
+use Rattle.shape.proofs.validate_buffers.Tie as tie
 
 frames-to-read-requires : tie.Need-frames-to-read-requires
 frames-to-read-requires c κs = search needs

@@ -1,13 +1,13 @@
--- `state::is_step` meets its contract: a NaN has its own way out. Assumes nothing.
+-- `steps::is_step` meets its contract: a NaN has its own way out. Assumes nothing.
 use mathlib.Core.Path.{sym, subst}
 use mathlib.Mathlib.Data.Bool.Basic.{or-eq-false-eq-eq-false-and-eq-false}
 use borrow.Author.Needs.{needs}
 use lib.Dec.{T}
 use lib.Ieee.{ne}
 use Rattle.exact.proofs.Nans.{no-nan}
-use Rattle.state.proofs.Steps.{step-none, step-some}
-use Rattle.state.proofs.is_step.Statement.{statement}
-use Rattle.state.proofs.is_step.Tie as tie
+use Rattle.steps.proofs.Steps.{step-none, step-some}
+use Rattle.steps.proofs.is_step.Statement.{statement}
+use Rattle.steps.proofs.is_step.Tie as tie
 
 step-of-requires : tie.Need-step-of-requires
 step-of-requires c κs = search needs

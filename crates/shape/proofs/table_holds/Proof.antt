@@ -1,9 +1,9 @@
--- `plan::table_holds` meets its contract. Assumes nothing.
+-- `shape::table_holds` meets its contract. Assumes nothing.
 use mathlib.Core.Path.{ap}
 use lib.Dec.{eqb}
 use Rattle.state.proofs.Checked.{kind-of}
-use Rattle.plan.proofs.table_holds.Statement.{statement}
-use Rattle.plan.proofs.table_holds.Tie as tie
+use Rattle.shape.proofs.table_holds.Statement.{statement}
+use Rattle.shape.proofs.table_holds.Tie as tie
 
 table-length-requires : tie.Need-table-length-requires
 table-length-requires c κs = kind-of _ (c .pre)

@@ -1,8 +1,8 @@
--- `plan::share_holds` meets its contract: there is a channel. Assumes nothing.
+-- `shape::share_holds` meets its contract: there is a channel. Assumes nothing.
 use borrow.Author.Needs.{needs}
 use Rattle.state.proofs.Valid.{valid}
-use Rattle.plan.proofs.share_holds.Statement.{statement}
-use Rattle.plan.proofs.share_holds.Tie as tie
+use Rattle.shape.proofs.share_holds.Statement.{statement}
+use Rattle.shape.proofs.share_holds.Tie as tie
 
 rem-result : tie.Need-rem-result
 rem-result c = valid _ (c .before .pre) .channels-some

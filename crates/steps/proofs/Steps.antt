@@ -13,7 +13,7 @@ use Rattle.exact.specs.Doubles.{oneF}
 use Rattle.exact.proofs.Nans.{no-nan}
 use Rattle.error.proofs.Ladder.{both, join}
 use Rattle.sizes.specs.Bounds.{isRatio}
-use Rattle.state.specs.Record.{stepOf, isStep}
+use Rattle.steps.specs.Steps.{stepOf, isStep}
 
 -- ---- a step that passes is the division
 same-bits : (x y : Float) → T (fits binary64 x) → T (fits binary64 y) → toBits binary64 x ≡ toBits binary64 y → x ≡ y

@@ -16,7 +16,7 @@ use Rattle.error.proofs.Ladder.{both}
 use Rattle.sizes.proofs.Read.{max-small}
 use Rattle.state.proofs.Valid.{valid}
 use Rattle.channel.specs.Mask.{maskFits}
-use Rattle.plan.specs.Plan.{readOf, strideOf, workHolds, tableHolds, shareHolds, shapeHolds}
+use Rattle.shape.specs.Shape.{readOf, strideOf, workHolds, tableHolds, shareHolds, shapeHolds}
 
 -- ---- sizes of the working area, which a usize holds
 pub stride-is : (s : State) (z : Size) (n l : ℕ) → z ≡ maxInputOf s → n ≡ framesOf z → l ≡ pointsIn s → n + 2 * l ≡ strideOf s

@@ -1,10 +1,10 @@
--- `plan::stride_of` meets its contract: a maximum and the points are small. Assumes nothing.
+-- `shape::stride_of` meets its contract: a maximum and the points are small. Assumes nothing.
 use native.Mathlib.Omega.{arith}
 use borrow.Author.Needs.{needs}
 use Rattle.kinds.proofs.Laws.{points-few}
-use Rattle.plan.proofs.Shape.{stride-small, stride-is}
-use Rattle.plan.proofs.stride_of.Statement.{statement}
-use Rattle.plan.proofs.stride_of.Tie as tie
+use Rattle.shape.proofs.Shape.{stride-small, stride-is}
+use Rattle.shape.proofs.stride_of.Statement.{statement}
+use Rattle.shape.proofs.stride_of.Tie as tie
 
 max-input-of-requires : tie.Need-max-input-of-requires
 max-input-of-requires c κs = search needs

@@ -1,12 +1,12 @@
--- `plan::work_holds` meets its contract: a working area is small. Assumes nothing.
+-- `shape::work_holds` meets its contract: a working area is small. Assumes nothing.
 use mathlib.Core.Path.{ap}
 use Prim.Native.Nat.{ℕ, _*_}
 use native.Mathlib.Omega.{arith}
 use lib.Dec.{eqb}
 use Rattle.state.proofs.Checked.{kind-of}
-use Rattle.plan.proofs.Shape.{work-small}
-use Rattle.plan.proofs.work_holds.Statement.{statement}
-use Rattle.plan.proofs.work_holds.Tie as tie
+use Rattle.shape.proofs.Shape.{work-small}
+use Rattle.shape.proofs.work_holds.Statement.{statement}
+use Rattle.shape.proofs.work_holds.Tie as tie
 
 stride-of-requires : tie.Need-stride-of-requires
 stride-of-requires c κs = kind-of _ (c .pre)

@@ -1,0 +1,2 @@
+-- What refusal 8's test tells. Assumes nothing.
+pub mod Shape

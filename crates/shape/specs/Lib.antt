@@ -1,0 +1,2 @@
+-- The shape of what a block is lent. Definitions only.
+pub mod Shape

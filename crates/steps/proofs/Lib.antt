@@ -1,0 +1,2 @@
+-- Laws of the step. Assumes nothing.
+pub mod Steps

@@ -1,0 +1,2 @@
+-- The step of a ratio, and its test. Definitions only.
+pub mod Steps
