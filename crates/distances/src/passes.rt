@@ -1,11 +1,9 @@
 // The passes: each a record, its settings, and its blocks.
 use crate::account::Account;
 use asynchro_fast::PolynomialDegree;
-use questions::Count;
 use sizes::FixedAsync;
 use state::Made;
 use state::State;
-ghost use Prim.Native.Nat.{_≤_};
 
 // A ramp to the one ratio of the first pass.
 fn set_first(k: u64, a: Account) -> Account {
@@ -64,19 +62,6 @@ fn run(
     a
 }
 
-// The length that the working area of one channel has to have.
-fn work_length(most: usize, l: usize) -> usize
-    ensures { λ r. ⌜ r ≤ 65552 ⌝ }
-{
-    if most > 65536 {
-        return 0;
-    }
-    if l > 8 {
-        return 0;
-    }
-    most + 2 * l
-}
-
 // The blocks on the first n samples of the working area.
 fn run_on(
     number: u64,
@@ -101,10 +86,7 @@ fn started(
     output: &mut [f64],
     work: &mut [f64],
 ) {
-    let Count::Number(most) = questions::input_frames_max(s) else {
-        return;
-    };
-    let n = work_length(most, state::points_in(s));
+    let n = lent::work_length(s);
     let opened = crate::account::opened(s);
     let a = run_on(number, opened, blocks, input, output, work, n);
     crate::report::print(number, a);
