@@ -5,7 +5,6 @@ use state::Made;
 use state::State;
 ghost use mathlib.Core.Path.{_≡_};
 ghost use mathlib.Core.Bool.{true};
-ghost use Rattle.kinds.specs.Kinds.{kindHolds};
 ghost use Rattle.state.specs.Record.{isState, saidMade};
 ghost use Rattle.plan.specs.Plan.{
   incrementOf,
