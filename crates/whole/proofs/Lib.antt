@@ -3,6 +3,7 @@ pub mod Held
 pub mod Divisions
 pub mod Units
 pub mod Sizes
+pub mod Fields
 pub mod Fraction
 pub mod Steps
 pub mod Signs

@@ -15,17 +15,28 @@ pub struct Parts {
     pub frac: f64,
 }
 
-// The whole part of an x that is not below 0. From 2^52 on a double has no fraction; that x, an
-// infinity, a NaN and a zero of either sign are themselves.
+// The whole part of an x that is not below 0, from its bits. Above the significand's 52 digits stands
+// the exponent, 1023 for 1.0 and 1075 for 2^52, and tells how many of the digits are worth less than
+// one: one shift finds them, and they are taken away. From 2^52 on there are none. An infinity goes
+// that way too, and -0.0, whose sign stands above the exponent and is read with it. A NaN goes before
+// its bits are asked for: the language leaves them open.
 fn part(x: f64) -> f64
     requires { ⌜ lt x zeroF ≡ false ⌝ }
     ensures { λ r. ⌜ r ≡ truncOf x ⌝ }
 {
-    if (x > 0.0) & (x < 4503599627370496.0) {
-        let n = std::num::truncating_f64_to_u64(x);
-        return std::num::nearest_u64_to_f64(n);
+    if x != x {
+        return x;
     }
-    x
+    let bits = f64::to_bits(x);
+    let exponent = bits >> 52;
+    if exponent < 1023 {
+        return 0.0;
+    }
+    if exponent >= 1075 {
+        return x;
+    }
+    let left = 0xf_ffff_ffff_ffff >> (exponent - 1023);
+    f64::from_bits(bits - (bits & left))
 }
 
 // The least whole number not below an x that is not below 0: one more where something is left.

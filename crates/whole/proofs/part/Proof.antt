@@ -1,34 +1,53 @@
--- `whole::part` meets its contract. Assumes nothing.
-use borrow.Author.Needs.{needs}
-use lib.Dec.{T, lit≤}
-use lib.Ieee.{lt, ofBits}
-use Rattle.exact.specs.Doubles.{zeroF}
-use mathlib.Core.Bool.{and-eq-true-iff}
-use mathlib.Core.Path.{_∙_, sym, subst}
-use Rattle.whole.proofs.Sizes.{part-asks, part-made, part-same}
+-- `whole::part` meets its contract: a NaN has its own way out, and the field of the exponent tells the others. Assumes nothing.
+use lib.Bits.{and-le-l}
+use lib.Dec.{T}
+use lib.Ieee.{binary64, fits}
+use mathlib.Core.Path.{sym, subst}
+use native.Mathlib.Omega.{arith}
+use Rattle.exact.proofs.Nans.{no-nan}
+use Rattle.whole.proofs.Fields.{part-nan, part-none, part-same, part-cut, cut-no-nan}
 use Rattle.whole.proofs.part.Statement.{statement}
 use Rattle.whole.proofs.part.Tie as tie
 
-truncating-f64-to-u64-requires : tie.Need-truncating-f64-to-u64-requires
-unfolding ofBits
-truncating-f64-to-u64-requires c κs =
-    let b = and-eq-true-iff (lt zeroF (c .before .args .x)) _ .0 (c .if1 .taken) in
-    part-asks _ _ (lit≤ tt) (c .before .pre) (b .1)
-
-nearest-u64-to-f64-requires : tie.Need-nearest-u64-to-f64-requires
-nearest-u64-to-f64-requires c κs = search needs
+-- x is a double
+held : (c : tie.Start) → T (fits binary64 (c .args .x))
+held c = subst T (sym (c .good .0 .1)) tt
 
 returns : tie.Need-returns
-unfolding ofBits
-returns c =
-    let b = and-eq-true-iff _ _ .0 (c .before .before .if1 .taken) in
-    c .nearest-u64-to-f64 .ensures ∙ part-made _ _ _ (lit≤ tt) (b .0) (b .1) (c .before .truncating-f64-to-u64 .ensures)
+returns c = part-nan _ (c .if1 .taken)
+
+float-to-bits-bits : tie.Need-float-to-bits-bits
+float-to-bits-bits c = no-nan _ (c .if1 .left)
 
 returns-2 : tie.Need-returns-2
-unfolding ofBits
-returns-2 c = part-same _ _ (lit≤ tt) (subst T (sym (c .before .good .0 .1)) tt) (c .before .pre) (c .if1 .left)
+returns-2 c = part-none _ (held (c .before .before)) (c .if2 .taken)
+
+returns-3 : tie.Need-returns-3
+returns-3 c =
+    let s = c .before .before .before in
+    part-same _ (held s) (s .pre) (c .if3 .taken)
+
+shr-left : tie.Need-shr-left
+shr-left c = omega (arith, c .if3 .left)
+
+sub-result : tie.Need-sub-result
+sub-result c = and-le-l _ _
+
+float-from-bits-result : tie.Need-float-from-bits-result
+float-from-bits-result c = cut-no-nan _ _ (c .if3 .left)
+
+returns-4 : tie.Need-returns-4
+returns-4 c = part-cut _ (held (c .before .before .before)) (c .before .if2 .left) (c .if3 .left)
 
 pub part-spec : {M : Type 1} → statement M
 part-spec =
     tie.close
-    (tie.spec truncating-f64-to-u64-requires nearest-u64-to-f64-requires returns returns-2)
+    (tie.spec
+    returns
+    float-to-bits-bits
+    returns-2
+    returns-3
+    shr-left
+    sub-result
+    float-from-bits-result
+    returns-4)
