@@ -20,12 +20,12 @@ float-to-bits-bits : tie.Need-float-to-bits-bits
 float-to-bits-bits c = no-nan _ (c .if1 .left)
 
 returns-2 : tie.Need-returns-2
-returns-2 c = part-none _ (held (c .before .before)) (c .if2 .taken)
+returns-2 c = part-none _ (held (c .before .before)) (omega (arith, c .if2 .taken))
 
 returns-3 : tie.Need-returns-3
 returns-3 c =
     let s = c .before .before .before in
-    part-same _ (held s) (s .pre) (c .if3 .taken)
+    part-same _ (held s) (s .pre) (omega (arith, c .if3 .taken))
 
 shr-left : tie.Need-shr-left
 shr-left c = omega (arith, c .if3 .left)
@@ -34,10 +34,10 @@ sub-result : tie.Need-sub-result
 sub-result c = and-le-l _ _
 
 float-from-bits-result : tie.Need-float-from-bits-result
-float-from-bits-result c = cut-no-nan _ _ (c .if3 .left)
+float-from-bits-result c = cut-no-nan _ _ (omega (arith, c .if3 .left))
 
 returns-4 : tie.Need-returns-4
-returns-4 c = part-cut _ (held (c .before .before .before)) (c .before .if2 .left) (c .if3 .left)
+returns-4 c = part-cut _ (held (c .before .before .before)) (omega (arith, c .before .if2 .left)) (omega (arith, c .if3 .left))
 
 pub part-spec : {M : Type 1} → statement M
 part-spec =
