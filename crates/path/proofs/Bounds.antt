@@ -24,30 +24,33 @@ use Rattle.path.specs.declared.Place.the-variants.{At}
 use Rattle.path.specs.Places.{within, placeFrom, placeOf, isAt}
 
 -- ---- what a place says of a whole number n with a sign
-at-within : (b : Bool) (s : ℕ) (x : Float) → isAt (within b (At s x)) ≡ b
+pub at-within : (b : Bool) (s : ℕ) (x : Float) → isAt (within b (At s x)) ≡ b
 at-within true s x = refl
 at-within false s x = refl
 
 cut-is : (m : ℕ) (e : ℤ) (n : ℕ) → m * up e * 1 ≡ n * down e → m * up e / down e ≡ n
 cut-is m e n h = ap (λ (a : ℕ). a / down e) (sym (mul-one (m * up e)) ∙ h) ∙ mul-div-cancel n (down-pos e)
 
-at-plain : (shift last : ℕ) (y frac : Float) (n : ℕ) → HasValue y false n 1 → isAt (placeFrom shift last y frac) ≡ leb (n + shift) last
+-- the place of a whole number n with either sign
+pub place-plain : (shift last : ℕ) (y frac : Float) (n : ℕ) → HasValue y false n 1 → placeFrom shift last y frac ≡ within (leb (n + shift) last) (At (n + shift) frac)
 unfolding placeFrom
-at-plain shift last nan frac n v = absurd v
-at-plain shift last (inf s) frac n v = absurd v
-at-plain shift last (fin true m e) frac n v = absurd (true≢false (v .0))
-at-plain shift last (fin false m e) frac n v =
-    let k = m * up e / down e in
-    at-within (leb (k + shift) last) (k + shift) frac ∙ ap (λ (j : ℕ). leb (j + shift) last) (cut-is m e n (v .1))
+place-plain shift last nan frac n v = absurd v
+place-plain shift last (inf s) frac n v = absurd v
+place-plain shift last (fin true m e) frac n v = absurd (true≢false (v .0))
+place-plain shift last (fin false m e) frac n v = ap (λ (j : ℕ). within (leb (j + shift) last) (At (j + shift) frac)) (cut-is m e n (v .1))
+
+pub place-minus : (shift last : ℕ) (y frac : Float) (n : ℕ) → HasValue y true n 1 → placeFrom shift last y frac ≡ within (leb n shift && leb (shift - n) last) (At (shift - n) frac)
+unfolding placeFrom
+place-minus shift last nan frac n v = absurd v
+place-minus shift last (inf s) frac n v = absurd v
+place-minus shift last (fin false m e) frac n v = absurd (false≢true (v .0))
+place-minus shift last (fin true m e) frac n v = ap (λ (j : ℕ). within (leb j shift && leb (shift - j) last) (At (shift - j) frac)) (cut-is m e n (v .1))
+
+at-plain : (shift last : ℕ) (y frac : Float) (n : ℕ) → HasValue y false n 1 → isAt (placeFrom shift last y frac) ≡ leb (n + shift) last
+at-plain shift last y frac n v = ap isAt (place-plain shift last y frac n v) ∙ at-within (leb (n + shift) last) (n + shift) frac
 
 at-minus : (shift last : ℕ) (y frac : Float) (n : ℕ) → HasValue y true n 1 → isAt (placeFrom shift last y frac) ≡ (leb n shift && leb (shift - n) last)
-unfolding placeFrom
-at-minus shift last nan frac n v = absurd v
-at-minus shift last (inf s) frac n v = absurd v
-at-minus shift last (fin false m e) frac n v = absurd (false≢true (v .0))
-at-minus shift last (fin true m e) frac n v =
-    let k = m * up e / down e in
-    at-within (leb k shift && leb (shift - k) last) (shift - k) frac ∙ ap (λ (j : ℕ). leb j shift && leb (shift - j) last) (cut-is m e n (v .1))
+at-minus shift last y frac n v = ap isAt (place-minus shift last y frac n v) ∙ at-within (leb n shift && leb (shift - n) last) (shift - n) frac
 
 -- ---- in units, of which U make one: v from -shift on and below last - shift + 1, and w the greatest whole number not above v
 abbrev Between : ℕ → ℕ → ℕ → Whole → Type 0

@@ -8,7 +8,6 @@ use native.Mathlib.Numerals.{add-one}
 use native.Mathlib.Omega.{arith}
 use lib.Ieee.{Float}
 use Rattle.path.specs.declared.Moment.{Moment}
-use Rattle.path.specs.declared.Site.{Site}
 use Rattle.path.specs.Path.{stepIndex, pathAt}
 use Rattle.kinds.specs.declared.Kind.{Kind}
 use Rattle.path.specs.Sites.{siteOf, reached, allReach}
@@ -27,13 +26,13 @@ module _ (kind : Kind) (needed : ℕ) (t d i : Float) where
   unfolding pathAt allReach
   along-none = record { moment = refl; all = refl }
 
-  pub along-next : (at at′ : Moment) (reach b : Bool) (p : Site) (f : ℕ) → Along kind needed t d i at reach f
-      → at′ ≡ stepIndex d at → p ≡ siteOf kind needed (at′ .index) → b ≡ reached p → Along kind needed t d i at′ (reach && b) (f + 1)
+  pub along-next : (at at′ : Moment) (reach b : Bool) (f : ℕ) → Along kind needed t d i at reach f
+      → at′ ≡ stepIndex d at → b ≡ reached (siteOf kind needed (at′ .index)) → Along kind needed t d i at′ (reach && b) (f + 1)
   unfolding allReach
-  along-next at at′ reach b p f a e h k =
+  along-next at at′ reach b f a e h =
       let m = path-next t d i at at′ f (a .moment) e in
       let q : at′ ≡ pathAt t d i (suc f) = rw add-one at m in
-      record { moment = m; all = rw (k, h, a .all, q, add-one) }
+      record { moment = m; all = rw (h, a .all, q, add-one) }
 
   pub along-done : (at : Moment) (reach : Bool) (f n : ℕ) → Along kind needed t d i at reach f → f ≡ n → (reach ≡ allReach kind needed t d i n) × (at .index ≡ pathAt t d i n .index)
   along-done at reach f n a e = rw (← e) (a .all, ap (λ (m : Moment). m .index) (a .moment))

@@ -1,7 +1,7 @@
 -- The site of an index, for each kind; and a site that was found has its samples within the working area, and its rows within the table. Assumes nothing.
 use mathlib.Core.Bool.{true}
 use mathlib.Core.Path.{_≡_, refl, subst}
-use Prim.Native.Nat.{ℕ, _+_, _*_, _≤_, _<_}
+use Prim.Native.Nat.{ℕ, _+_, _-_, _*_, _≤_, _<_}
 use native.Mathlib.Omega.{arith}
 use lib.Ieee.{Float}
 use Rattle.asynchro_fast.specs.declared.PolynomialDegree.{PolynomialDegree}
@@ -16,10 +16,11 @@ use Rattle.grid_places.specs.Turns.{FitAll}
 use Rattle.grid_places.proofs.Grid.{spots-fit}
 use Rattle.path.specs.declared.Place.{Place}
 use Rattle.path.specs.declared.Site.{Site}
+use Rattle.path.specs.declared.Span.{Span}
 use Rattle.path.specs.declared.Site.the-variants.{Kernel, Grid}
 use Rattle.path.specs.Places.{placeOf, shiftOf, lastOf}
 use Rattle.path.specs.Sites.{siteOf}
-use Rattle.path.specs.Turns.{Reaches, Lies}
+use Rattle.path.specs.Turns.{spanOf, innerSpan, Reaches, Lies}
 use Rattle.path.proofs.Places.{place-reach}
 
 -- ---- the site, by its kind
@@ -35,9 +36,20 @@ site-grid k points factor blend needed x spots e h = rw (e, h)
 pub grid-small : (k : Kind) (points factor : ℕ) (blend : SincInterpolationType) (needed : ℕ) → k ≡ Sinc points factor blend → kindHolds k ≡ true → needed ≤ 65536
     → (2 * points < 131072) × (points + needed < 131072)
 grid-small k points factor blend needed e h l =
-    let q : kindHolds (Sinc points factor blend) ≡ true = subst (λ (z : Kind). kindHolds z ≡ true) e h in
-    let z = sized points factor q .points-most in
+    let q = sized points factor (subst (λ (z : Kind). kindHolds z ≡ true) e h) .points-most in
     (omega arith, omega arith)
+
+-- ---- the inner span, by its kind
+pub inner-kernel : (k : Kind) (degree : PolynomialDegree) (needed shift last : ℕ) (r : Span) → k ≡ Polynomial degree → shift ≡ shiftOf degree → last ≡ lastOf degree needed → r ≡ spanOf shift last → r ≡ innerSpan k needed
+inner-kernel k degree needed shift last r e a b h = rw (e, ← a, ← b) h
+
+pub inner-grid : (k : Kind) (points factor : ℕ) (blend : SincInterpolationType) (needed : ℕ) (r : Span) → k ≡ Sinc points factor blend → r ≡ spanOf (2 * points - 1) (points + needed - 2) → r ≡ innerSpan k needed
+inner-grid k points factor blend needed r e h = rw e h
+
+pub grid-sized : (k : Kind) (points factor : ℕ) (blend : SincInterpolationType) → k ≡ Sinc points factor blend → kindHolds k ≡ true → (8 ≤ points) × (points ≤ 256)
+grid-sized k points factor blend e h =
+    let z = sized points factor (subst (λ (z : Kind). kindHolds z ≡ true) e h) in
+    (z .points-least, z .points-most)
 
 -- ---- a site lies within n samples and a table of m
 lies : (k : Kind) → kindHolds k ≡ true → (needed : ℕ) (x : Float) (n m : ℕ) → 2 * pointsOf k + needed ≤ n → m ≡ tableOf k → Lies (siteOf k needed x) n m

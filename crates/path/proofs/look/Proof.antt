@@ -7,10 +7,13 @@ use Rattle.path.proofs.look.Statement.{statement}
 use Rattle.path.proofs.look.Tie as tie
 
 abbrev Inv-loop : tie.InvT-loop
-Inv-loop kind needed t d i n at₀ reach₀ f₀ at reach f = (f ≤ n) × Along kind needed t d i at reach f
+Inv-loop kind needed t d i n span at₀ reach₀ f₀ at reach f = (f ≤ n) × Along kind needed t d i at reach f
 
 abbrev μ-loop : tie.MeasureT-loop
-μ-loop kind needed t d i n at₀ reach₀ f₀ at reach f = n - f
+μ-loop kind needed t d i n span at₀ reach₀ f₀ at reach f = n - f
+
+inner-span-requires : tie.Need-inner-span-requires Inv-loop μ-loop
+inner-span-requires c κs = search needs
 
 loop-holds : tie.Need-loop-holds Inv-loop μ-loop
 loop-holds c = (omega arith, along-none _ _ _ _ _)
@@ -18,11 +21,8 @@ loop-holds c = (omega arith, along-none _ _ _ _ _)
 step-index-requires : tie.Need-step-index-requires Inv-loop μ-loop
 step-index-requires c κs = search needs
 
-site-of-requires : tie.Need-site-of-requires Inv-loop μ-loop
-site-of-requires c κs = search needs
-
-is-reached-requires : tie.Need-is-reached-requires Inv-loop μ-loop
-is-reached-requires c κs = search needs
+in-reach-requires : tie.Need-in-reach-requires Inv-loop μ-loop
+in-reach-requires c κs = search needs
 
 add-f : tie.Need-add-f Inv-loop μ-loop
 add-f c = search needs
@@ -32,8 +32,8 @@ loop-less c = search needs
 
 loop-again : tie.Need-loop-again Inv-loop μ-loop
 loop-again c =
-    let l = c .before .before .before .before .loop in
-    (omega arith, along-next _ _ _ _ _ (l .at) (c .before .before .step-index .result) (l .reach) _ _ (l .f) (l .inv .1) (c .before .before .step-index .ensures) (c .before .site-of .ensures) (c .is-reached .ensures))
+    let l = c .before .before .before .loop in
+    (omega arith, along-next _ _ _ _ _ (l .at) (c .before .step-index .result) (l .reach) _ (l .f) (l .inv .1) (c .before .step-index .ensures) (c .in-reach .ensures))
 
 returns : tie.Need-returns Inv-loop μ-loop
 returns c =
@@ -46,10 +46,10 @@ look-spec =
     (tie.spec
     Inv-loop
     μ-loop
+    inner-span-requires
     loop-holds
     step-index-requires
-    site-of-requires
-    is-reached-requires
+    in-reach-requires
     add-f
     loop-less
     loop-again
