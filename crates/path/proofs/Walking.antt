@@ -5,10 +5,9 @@ use mathlib.Core.Path.{_≡_, refl, sym, ap, _∙_, subst}
 use Prim.Native.Nat.{ℕ, zero, suc, _+_, _≤_, _<_}
 use native.Mathlib.Numerals.{add-one}
 use native.Mathlib.Omega.{arith}
-use lib.Ieee.{Float}
+use lib.Ieee.{Float, nan}
 use lib.ListN.{length, getD, set, length-set}
 use lib.Seq.{getD-set-same, getD-set-other}
-use Rattle.exact.specs.Doubles.{zeroF}
 use Rattle.path.specs.declared.Moment.{Moment}
 use Rattle.path.specs.declared.Place.{Place}
 use Rattle.path.specs.declared.Place.the-variants.{At, Out}
@@ -31,12 +30,12 @@ module _ (shift last : ℕ) (t d i : Float) (places : List ℕ) (fracs : List Fl
   unfolding PlacedTo
   placed-set s x zero l p = tt
   placed-set s x (suc k) l p =
-      (placed-set s x k (omega arith) (p .0), rw (getD-set-other places f k s 0 (λ e. omega arith), getD-set-other fracs f k x zeroF (λ e. omega arith)) (p .1))
+      (placed-set s x k (omega arith) (p .0), rw (getD-set-other places f k s 0 (λ e. omega arith), getD-set-other fracs f k x nan (λ e. omega arith)) (p .1))
 
   put-next : (p : Place) → f < length places → f < length fracs → isAt p ≡ true → placeOf shift last (pathAt t d i (suc f) .index) ≡ p
       → PlacedTo shift last t d i places fracs f → PlacedTo shift last t d i (putStart p f places) (putFrac p f fracs) (suc f)
   unfolding PlacedTo
-  put-next (At s x) a b e h q = (placed-set s x f (omega arith) q, rw (getD-set-same places f s 0 a, getD-set-same fracs f x zeroF b) h)
+  put-next (At s x) a b e h q = (placed-set s x f (omega arith) q, rw (getD-set-same places f s 0 a, getD-set-same fracs f x nan b) h)
   put-next Out a b e h q = absurd (false≢true e)
 
 -- ---- the walk: what holds after f frames

@@ -3,9 +3,9 @@ use mathlib.Core.Bool.{Bool, _&&_}
 use mathlib.Core.List.{List}
 use mathlib.Core.Path.{_≡_}
 use Prim.Native.Nat.{ℕ, zero, suc, _+_, _-_, _*_, _≤_}
-use lib.Ieee.{Float, neg, lt, le}
+use lib.Ieee.{Float, nan, neg, lt, le}
 use lib.ListN.{getD, set}
-use Rattle.exact.specs.Doubles.{_+f_, count, zeroF}
+use Rattle.exact.specs.Doubles.{_+f_, count}
 use Rattle.asynchro_fast.specs.declared.PolynomialDegree.{PolynomialDegree}
 use Rattle.asynchro_fast.specs.Degrees.{pointsOf}
 use Rattle.kinds.specs.declared.Kind.{Kind}
@@ -45,7 +45,7 @@ unfoldable pub PlacedTo : ℕ → ℕ → Float → Float → Float → List ℕ
 unfolding placeFrom pathAt
 PlacedTo shift last t d i places fracs zero = Unit
 PlacedTo shift last t d i places fracs (suc f) =
-    PlacedTo shift last t d i places fracs f × (placeOf shift last (pathAt t d i (suc f) .index) ≡ At (getD places f 0) (getD fracs f zeroF))
+    PlacedTo shift last t d i places fracs f × (placeOf shift last (pathAt t d i (suc f) .index) ≡ At (getD places f 0) (getD fracs f nan))
 
 -- the neighbours that begin there end within n samples
 abbrev pub Reaches : PolynomialDegree → Place → ℕ → Type 0

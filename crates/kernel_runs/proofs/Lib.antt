@@ -1,0 +1,2 @@
+-- Laws of a run of one kernel. Assumes nothing.
+pub mod Runs
