@@ -19,7 +19,7 @@ use Rattle.path.specs.declared.Site.{Site}
 use Rattle.path.specs.Path.{stepIndex, pathAt}
 use Rattle.path.specs.Sites.{siteOf}
 use Rattle.frames.specs.Run.{valueAt, framesTo, ranIn, ranAll}
-use Rattle.frames.specs.Turns.{wroteIn, wroteAll}
+use Rattle.frames.specs.Turns.{onIn, oneFrame, wroteAll}
 use Rattle.path.proofs.Path.{path-next}
 use Rattle.frames.proofs.Frames.{frameOf, frames-long, frame-next}
 
@@ -28,26 +28,30 @@ use Rattle.frames.proofs.Frames.{frameOf, frames-long, frame-next}
 pub written : (on : Bool) (o : List Float) (k : ℕ) (v w : Float) → on ≡ true → v ≡ w → set o k v ≡ whereOn on (set o k w) o
 written on o k v w e h = rw (e, h)
 
-module _ (table : List Float) (mask : ℕ) (work : List Float) (stride : ℕ) (site : Site) (k share : ℕ) where
-  pub wrote-keeps : (channels : ℕ) → Keeps (wroteIn table mask work stride site k) share channels
-  wrote-keeps channels c l o e = where-long (isOn mask c) (set o k (valueAt table (partOf stride c work) site)) o share (length-set o k _ ∙ e) e
+-- a write that keeps a share as long as it was keeps every share so
+module _ (mask : ℕ) (work : List Float) (stride : ℕ) (write : List Float → List Float → List Float) (share : ℕ) (long : (w o : List Float) → length o ≡ share → length (write w o) ≡ share) where
+  pub on-keeps : (channels : ℕ) → Keeps (onIn mask work stride write) share channels
+  on-keeps channels c l o e = where-long (isOn mask c) (write (partOf stride c work) o) o share (long (partOf stride c work) o e) e
 
   -- one channel more, whose shares of both areas were lent
-  pub wrote-next : (out₀ out ys : List Float) (c : ℕ) (on : Bool) → Parted (wroteIn table mask work stride site k) share out₀ out c → c * share + share ≤ length out₀
+  pub on-next : (out₀ out ys : List Float) (c : ℕ) (on : Bool) → Parted (onIn mask work stride write) share out₀ out c → c * share + share ≤ length out₀
       → on ≡ isOn mask c
-      → ys ≡ whereOn on (set (take (c * share + share - c * share) (drop (c * share) out)) k (valueAt table (take (c * stride + stride - c * stride) (drop (c * stride) work)) site))
+      → ys ≡ whereOn on (write (take (c * stride + stride - c * stride) (drop (c * stride) work)) (take (c * share + share - c * share) (drop (c * share) out)))
       (take (c * share + share - c * share) (drop (c * share) out))
-      → Parted (wroteIn table mask work stride site k) share out₀ (take (c * share) out ++ (ys ++ drop (c * share + share - c * share) (drop (c * share) out))) (c + 1)
-  wrote-next out₀ out ys c on r h e y =
-      let g = wroteIn table mask work stride site k in
+      → Parted (onIn mask work stride write) share out₀ (take (c * share) out ++ (ys ++ drop (c * share + share - c * share) (drop (c * share) out))) (c + 1)
+  on-next out₀ out ys c on r h e y =
+      let g = onIn mask work stride write in
       let lent = take (c * share + share - c * share) (drop (c * share) out) in
       let is : ys ≡ g c lent = rw (lent-is (c * stride) stride work, e) at y in
       let fits : c * share + share ≤ length out = omega (arith, h, r .long) in
-      let n : length ys ≡ share = rw is (wrote-keeps (suc c) c (omega arith) lent (lent-long (c * share) share out fits)) in
+      let n : length ys ≡ share = rw is (on-keeps (suc c) c (omega arith) lent (lent-long (c * share) share out fits)) in
       let j : c * share + share - c * share ≡ share = omega arith in
       parted-next g share out₀ out _ c r h
       (rw j (simp (length-append, length-drop, length-take-le (c * share) out (omega arith)) (omega (arith, fits, n))))
       (given-back g share c out ys is)
+
+pub frame-long : (table : List Float) (site : Site) (k share : ℕ) (w o : List Float) → length o ≡ share → length (oneFrame table site k w o) ≡ share
+frame-long table site k share w o e = length-set o k (valueAt table w site) ∙ e
 
 -- ---- the frames of all channels
 module _ (kind : Kind) (table : List Float) (needed mask : ℕ) (work : List Float) (stride : ℕ) (t d i : Float) (at share : ℕ) where
@@ -63,7 +67,7 @@ module _ (kind : Kind) (table : List Float) (needed mask : ℕ) (work : List Flo
 
   -- one frame more in the channel c
   turn : (f c : ℕ) (o : List Float) → at + f < length o
-      → wroteIn table mask work stride (siteOf kind needed (pathAt t d i (suc f) .index)) (at + f) c (ranIn kind table needed mask work stride t d i f at c o)
+      → onIn mask work stride (oneFrame table (siteOf kind needed (pathAt t d i (suc f) .index)) (at + f)) c (ranIn kind table needed mask work stride t d i f at c o)
       ≡ ranIn kind table needed mask work stride t d i (suc f) at c o
   turn f c o h = go (isOn mask c)
     where
@@ -102,7 +106,7 @@ module _ (kind : Kind) (table : List Float) (needed mask : ℕ) (work : List Flo
       let n : moment′ ≡ pathAt t d i (suc f) = rw add-one at m in
       let u : site ≡ siteOf kind needed (pathAt t d i (suc f) .index) = rw n at q in
       let g = ranIn kind table needed mask work stride t d i f at in
-      let v = wroteIn table mask work stride (siteOf kind needed (pathAt t d i (suc f) .index)) (at + f) in
+      let v = onIn mask work stride (oneFrame table (siteOf kind needed (pathAt t d i (suc f) .index)) (at + f)) in
       record {
         long = l ∙ r .long;
         along = m;

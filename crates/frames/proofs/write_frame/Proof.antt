@@ -6,14 +6,14 @@ use denote.Ref.{now}
 use lib.ListN.{length}
 use Rattle.area.proofs.Parts.{room}
 use Rattle.area.proofs.Parted.{Parted, parted-none, parted-done, lent-long}
-use Rattle.frames.specs.Turns.{wroteIn}
+use Rattle.frames.specs.Turns.{onIn, oneFrame}
 use Rattle.path.proofs.Sites.{lies-same}
-use Rattle.frames.proofs.Run.{wrote-next}
+use Rattle.frames.proofs.Run.{frame-long, on-next}
 use Rattle.frames.proofs.write_frame.Statement.{statement}
 use Rattle.frames.proofs.write_frame.Tie as tie
 
 abbrev Inv-loop : tie.InvT-loop
-Inv-loop table mask work stride site k out₀ share channels c₀ out c = (c ≤ channels) × Parted (wroteIn table mask work stride site k) share out₀ out c
+Inv-loop table mask work stride site k out₀ share channels c₀ out c = (c ≤ channels) × Parted (onIn mask work stride (oneFrame table site k)) share out₀ out c
 
 abbrev μ-loop : tie.MeasureT-loop
 μ-loop table mask work stride site k out₀ share channels c₀ out c = channels - c
@@ -90,7 +90,7 @@ loop-again c =
     let l = c .before .before .before .before .before .before .before .loop in
     let f = c .before .before .write-channel in
     let r = rooms (c .before .before .before .before .before .before) in
-    (omega arith, wrote-next (now (s .args .table)) _ (now (s .args .work)) (s .args .stride) _ _ (s .args .share) (now (s .args .out)) (l .out) _ (l .c) _ (l .inv .1) (r .0) (c .before .before .before .before .before .is-on .ensures) (f .ensures))
+    (omega arith, on-next _ (now (s .args .work)) (s .args .stride) (oneFrame (now (s .args .table)) (s .args .site) (s .args .k)) (s .args .share) (frame-long (now (s .args .table)) (s .args .site) (s .args .k) (s .args .share)) (now (s .args .out)) (l .out) _ (l .c) _ (l .inv .1) (r .0) (c .before .before .before .before .before .is-on .ensures) (f .ensures))
 
 same-length : tie.Need-same-length Inv-loop μ-loop
 same-length c = c .before .loop .inv .1 .long

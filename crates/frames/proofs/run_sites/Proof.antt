@@ -1,4 +1,4 @@
--- `frames::run_all` meets its contract. The invariant: the output is that of the first f frames. Assumes nothing.
+-- `frames::run_sites` meets its contract. The invariant: the output is that of the first f frames. Assumes nothing.
 use Prim.Native.Nat.{_≤_, _-_}
 use native.Mathlib.Omega.{arith}
 use borrow.Author.Needs.{needs}
@@ -6,8 +6,8 @@ use denote.Ref.{now}
 use mathlib.Core.Path.{_∙_, sym}
 use Rattle.path.proofs.Sites.{site-lies}
 use Rattle.frames.proofs.Run.{Ran, ran-none, ran-next, ran-done}
-use Rattle.frames.proofs.run_all.Statement.{statement}
-use Rattle.frames.proofs.run_all.Tie as tie
+use Rattle.frames.proofs.run_sites.Statement.{statement}
+use Rattle.frames.proofs.run_sites.Tie as tie
 
 abbrev Inv-loop : tie.InvT-loop
 Inv-loop kind table needed mask work stride t d i n at out₀ share channels moment₀ f₀ out moment f =
@@ -58,8 +58,8 @@ same-length c = c .before .loop .inv .1 .long
 returns : tie.Need-returns Inv-loop μ-loop
 returns c = ran-done _ _ _ _ _ _ _ _ _ _ _ _ _ _ (c .before .loop .moment) (c .before .loop .f) (c .before .before .before .before .before .args .n) (c .before .loop .inv .1) (omega arith)
 
-pub run-all-spec : {M : Type 1} → statement M
-run-all-spec =
+pub run-sites-spec : {M : Type 1} → statement M
+run-sites-spec =
     tie.close
     (tie.spec
     Inv-loop
