@@ -180,15 +180,15 @@ module _ (shift last : ℕ) (h : shift < 131072) (l : last < 131072) where
       let p = le-exact binary64 (spanOf shift last .least) x (b .first) n in
       let q = lt-exact binary64 x (spanOf shift last .end) n (b .final) in (
         (λ e.
-        let w = and-eq-true-iff (le (spanOf shift last .least) x) (lt x (spanOf shift last .end)) .0 e in
-        record {
-          number = n;
-          atLeast = subst (λ (v : Whole). AtMost v (exact binary64 x)) (b .least) (p .0 (passes _ (w .0)));
-          below = less-same (exact binary64 x) _ _ (q .0 (passes _ (w .1))) (b .end);
-        }),
+            let w = and-eq-true-iff (le (spanOf shift last .least) x) (lt x (spanOf shift last .end)) .0 e in
+            record {
+              number = n;
+              atLeast = subst (λ (v : Whole). AtMost v (exact binary64 x)) (b .least) (p .0 (passes _ (w .0)));
+              below = less-same (exact binary64 x) _ _ (q .0 (passes _ (w .1))) (b .end);
+            }),
         (λ d.
-        and-eq-true-iff (le (spanOf shift last .least) x) (lt x (spanOf shift last .end)) .1
-        (is-true _ (p .1 (subst (λ (v : Whole). AtMost v (exact binary64 x)) (sym (b .least)) (d .atLeast))), is-true _ (q .1 (less-as (exact binary64 x) _ _ (d .below) (b .end))))),
+            and-eq-true-iff (le (spanOf shift last .least) x) (lt x (spanOf shift last .end)) .1
+            (is-true _ (p .1 (subst (λ (v : Whole). AtMost v (exact binary64 x)) (sym (b .least)) (d .atLeast))), is-true _ (q .1 (less-as (exact binary64 x) _ _ (d .below) (b .end))))),
       )
 
   pub span-is : (x : Float) → T (fits binary64 x) → isWithin (spanOf shift last) x ≡ isAt (placeOf shift last x)
