@@ -3,3 +3,4 @@ pub mod Signs
 pub mod Answers
 pub mod Grid
 pub mod Bounds
+pub mod Inner
