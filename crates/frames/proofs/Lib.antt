@@ -2,4 +2,5 @@
 pub mod Values
 pub mod Frames
 pub mod Run
+pub mod Fills
 pub mod Apart

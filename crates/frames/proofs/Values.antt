@@ -1,14 +1,11 @@
 -- A frame's value by its site. Assumes nothing.
 use mathlib.Core.Path.{_≡_}
 use mathlib.Core.List.{List}
-use Prim.Native.Nat.{ℕ, _+_, _-_}
-use native.Mathlib.Omega.{arith}
+use Prim.Native.Nat.{ℕ}
 use lib.Ieee.{Float}
-use lib.ListN.{take, drop}
 use Rattle.exact.specs.Doubles.{zeroF}
 use Rattle.asynchro_fast.specs.declared.PolynomialDegree.{PolynomialDegree}
-use Rattle.asynchro_fast.specs.Degrees.{pointsOf}
-use Rattle.asynchro_fast.specs.Kernels.{interpOf}
+use Rattle.kernel_runs.specs.Runs.{kernelOn}
 use Rattle.path.specs.declared.Place.{Place}
 use Rattle.path.specs.declared.Place.the-variants.{At, Out}
 use Rattle.path.specs.declared.Site.{Site}
@@ -17,12 +14,9 @@ use Rattle.grid_places.specs.declared.Spots.{Spots}
 use Rattle.sinc_value.specs.Values.{spotsValue}
 use Rattle.frames.specs.Run.{kernelAt, valueAt}
 
-pub kernel-at : (degree : PolynomialDegree) (work : List Float) (p : Place) (s : ℕ) (x : Float) (l : ℕ) (r : Float)
-    → p ≡ At s x → l ≡ pointsOf degree → r ≡ interpOf degree x (take (s + l - s) (drop s work)) → r ≡ kernelAt degree work p
-unfolding kernelAt
-kernel-at degree work p s x l r e u h =
-    let k : s + l - s ≡ pointsOf degree = omega arith in
-    rw e (rw k at h)
+pub kernel-at : (degree : PolynomialDegree) (work : List Float) (p : Place) (s : ℕ) (x r : Float) → p ≡ At s x → r ≡ kernelOn degree work s x → r ≡ kernelAt degree work p
+unfolding kernelAt kernelOn
+kernel-at degree work p s x r e h = rw e h
 
 pub kernel-out : (degree : PolynomialDegree) (work : List Float) (p : Place) → p ≡ Out → zeroF ≡ kernelAt degree work p
 unfolding kernelAt
