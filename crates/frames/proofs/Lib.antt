@@ -3,4 +3,5 @@ pub mod Values
 pub mod Frames
 pub mod Run
 pub mod Fills
+pub mod Joined
 pub mod Apart

@@ -222,25 +222,25 @@ fn run_part(
             share,
             channels,
         );
-    } else {
-        let kind = Kind::Polynomial(degree);
-        run_sites(
-            kind,
-            table,
-            needed,
-            mask,
-            work,
-            stride,
-            from.step,
-            d,
-            from.index,
-            n,
-            at,
-            out,
-            share,
-            channels,
-        );
+        return walked.after;
     }
+    let kind = Kind::Polynomial(degree);
+    run_sites(
+        kind,
+        table,
+        needed,
+        mask,
+        work,
+        stride,
+        from.step,
+        d,
+        from.index,
+        n,
+        at,
+        out,
+        share,
+        channels,
+    );
     walked.after
 }
 
