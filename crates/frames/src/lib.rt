@@ -244,14 +244,14 @@ fn run_part(
     walked.after
 }
 
-// The smaller of 64 and n.
-fn at_most_64(n: usize) -> usize
-    ensures { λ r. ⌜ (r ≤ n) × ((r ≤ 64) × (0 < n → 0 < r)) ⌝ }
+// The smaller of 32 and n.
+fn at_most_32(n: usize) -> usize
+    ensures { λ r. ⌜ (r ≤ n) × ((r ≤ 32) × (0 < n → 0 < r)) ⌝ }
 {
-    if n < 64 { n } else { 64 }
+    if n < 32 { n } else { 32 }
 }
 
-// The frames of a kernel, 64 at a time.
+// The frames of a kernel, 32 at a time.
 fn run_kernel(
     degree: PolynomialDegree,
     table: &[f64],
@@ -274,13 +274,13 @@ fn run_kernel(
     requires { ⌜ (needed ≤ 65536) × (channels ≤ 16) ⌝ }
     requires { ⌜ (channels * stride ≡ length (now work)) × (channels * share ≡ length (now out)) ⌝ }
     requires { ⌜ (at + n ≤ share) × (2 * pointsOf (Kind.Polynomial degree) + needed ≤ stride) ⌝ }
-    requires { ⌜ (64 ≤ length (now places)) × (64 ≤ length (now fracs)) ⌝ }
+    requires { ⌜ (32 ≤ length (now places)) × (32 ≤ length (now fracs)) ⌝ }
     ensures { λ _. ⌜ now (out .exit) ≡ ranAll (Kind.Polynomial degree) (now (table .entry)) needed mask (now (work .entry)) stride t d i n at share channels (now (out .entry)) ⌝ }
 {
     let mut moment = Moment { index: i, step: t };
     let mut f = 0;
     while f < n {
-        let m = at_most_64(n - f);
+        let m = at_most_32(n - f);
         moment = run_part(
             degree,
             table,
@@ -327,8 +327,8 @@ pub fn run_all(
 {
     match kind {
         Kind::Polynomial(degree) => {
-            let mut places = [0; 64];
-            let mut fracs = [0.0; 64];
+            let mut places = [0; 32];
+            let mut fracs = [0.0; 32];
             run_kernel(
                 degree,
                 table,

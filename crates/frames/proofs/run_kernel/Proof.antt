@@ -22,11 +22,11 @@ abbrev μ-loop : tie.MeasureT-loop
 loop-holds : tie.Need-loop-holds Inv-loop μ-loop
 loop-holds c = (omega arith, (refl, (refl, ran-none _ _ _ _ _ _ _ _ _ _ _ _ _)))
 
-sub-at-most-64 : tie.Need-sub-at-most-64 Inv-loop μ-loop
-sub-at-most-64 c = search needs
+sub-at-most-32 : tie.Need-sub-at-most-32 Inv-loop μ-loop
+sub-at-most-32 c = search needs
 
-at-most-64-requires : tie.Need-at-most-64-requires Inv-loop μ-loop
-at-most-64-requires c κs = search needs
+at-most-32-requires : tie.Need-at-most-32-requires Inv-loop μ-loop
+at-most-32-requires c κs = search needs
 
 add-run-part : tie.Need-add-run-part Inv-loop μ-loop
 add-run-part c = omega (arith, c .before .before .before .before .before .before .before .before .pre .1 .1 .1 .0 .0)
@@ -35,20 +35,20 @@ run-part-requires : tie.Need-run-part-requires Inv-loop μ-loop
 run-part-requires c κs =
     let p = c .before .before .before .before .before .before .before .before .before .before .before .pre in
     let l = c .before .before .before .before .before .loop in
-    let m = c .before .before .before .at-most-64 .ensures in
+    let m = c .before .before .before .at-most-32 .ensures in
     (p .0, (p .1 .0, ((p .1 .1 .0 .0, p .1 .1 .0 .1 ∙ sym (l .inv .1 .1 .1 .long)), ((omega (arith, m .0, p .1 .1 .1 .0 .0), p .1 .1 .1 .0 .1), (omega (arith, m .1 .0, p .1 .1 .1 .1 .0, l .inv .1 .0), omega (arith, m .1 .0, p .1 .1 .1 .1 .1, l .inv .1 .1 .0))))))
 
 add-f : tie.Need-add-f Inv-loop μ-loop
-add-f c = omega (arith, c .before .before .before .before .before .before .before .before .before .before .at-most-64 .ensures .0)
+add-f c = omega (arith, c .before .before .before .before .before .before .before .before .before .before .at-most-32 .ensures .0)
 
 loop-less : tie.Need-loop-less Inv-loop μ-loop
-loop-less c = let m = c .before .before .before .before .before .before .before .before .before .before .at-most-64 .ensures in omega (arith, m .0, m .1 .1 (omega arith))
+loop-less c = let m = c .before .before .before .before .before .before .before .before .before .before .at-most-32 .ensures in omega (arith, m .0, m .1 .1 (omega arith))
 
 loop-again : tie.Need-loop-again Inv-loop μ-loop
 loop-again c =
     let s = c .before .before .before .before .before .before .before .before .before .before .before .before .before .before .before .before .before .before in
     let l = c .before .before .before .before .before .before .before .before .before .before .before .before .loop in
-    let m = c .before .before .before .before .before .before .before .before .before .before .at-most-64 in
+    let m = c .before .before .before .before .before .before .before .before .before .before .at-most-32 in
     let r = c .before .before .before .before .before .before .run-part in
     (omega (arith, m .ensures .0), (r .kept .1 .1 .1 .1 .1 .1 .1 .1 .1 .1 .1 .1 .1 .0 ∙ l .inv .1 .0, (r .kept .1 .1 .1 .1 .1 .1 .1 .1 .1 .1 .1 .1 .1 .1 .0 ∙ l .inv .1 .1 .0, ran-more _ (now (s .args .table)) _ _ (now (s .args .work)) _ _ _ _ (s .args .at) (s .args .share) (s .args .channels) (now (s .args .out)) (l .out) _ (l .moment) (r .result) (l .f) (m .result) (l .inv .1 .1 .1) (omega (arith, s .pre .1 .1 .0 .1)) (omega (arith, m .ensures .0, s .pre .1 .1 .1 .0 .0)) (r .kept .1 .1 .1 .1 .1 .1 .1 .1 .1 .1 .0) (r .ensures .0) (r .ensures .1))))
 
@@ -73,8 +73,8 @@ run-kernel-spec =
     Inv-loop
     μ-loop
     loop-holds
-    sub-at-most-64
-    at-most-64-requires
+    sub-at-most-32
+    at-most-32-requires
     add-run-part
     run-part-requires
     add-f
