@@ -48,10 +48,11 @@ fn first_lengths(s: State) -> Made
     requires { ⌜ kindHolds (s .kind) ≡ true ⌝ }
     ensures { λ r. ⌜ saidMade r ≡ firstLengths s ⌝ }
 {
-    if !state::maxima_hold(s) {
+    let most = state::max_input_of(s);
+    if !state::maxima_hold(s, most) {
         return Made::Refused(Refusal::SizeTooLarge);
     }
-    match state::update_lengths(s) {
+    match state::update_lengths_of(s, most) {
         Made::Ready(t) => {
             let mut next = t;
             next.fill = t.input;

@@ -28,10 +28,11 @@ pub fn area_length(channels: usize, frames: usize) -> usize
 pub fn work_length(s: State) -> usize
     ensures { λ r. ⌜ r ≡ workLength s ⌝ }
 {
-    if !state::is_state(s) {
+    let most = state::max_input_of(s);
+    if !state::is_state_of(s, most) {
         return 0;
     }
-    s.channels * shape::stride_of(s)
+    s.channels * shape::stride_of(s, most)
 }
 
 // The block on an output of zeros.

@@ -65,17 +65,18 @@ pub fn plan(
 ) -> Made
     ensures { λ r. ⌜ saidMade r ≡ planned s frames mask table input output work ⌝ }
 {
-    if !state::is_state(s) {
+    let most = state::max_input_of(s);
+    if !state::is_state_of(s, most) {
         return Made::Refused(state::fault_of(s));
     }
-    if !shape::validate_buffers(s, frames, mask, table, input, output, work) {
+    if !shape::validate_buffers(s, most, frames, mask, table, input, output, work) {
         return Made::Refused(Refusal::BufferShape);
     }
     let seen = look(s);
     if !seen.reach {
         return Made::Refused(Refusal::Reach);
     }
-    state::update_lengths(after_block(s, seen.index))
+    state::update_lengths_of(after_block(s, seen.index), most)
 }
 
 // The record as reset restores it, before its sizes are worked out: the fill stays.
@@ -97,11 +98,12 @@ fn restored_state(s: State) -> State
 pub fn plan_reset(s: State, work: usize) -> Made
     ensures { λ r. ⌜ saidMade r ≡ resetting s work ⌝ }
 {
-    if !state::is_state(s) {
+    let most = state::max_input_of(s);
+    if !state::is_state_of(s, most) {
         return Made::Refused(state::fault_of(s));
     }
-    if !shape::work_holds(s, work) {
+    if !shape::work_holds(s, most, work) {
         return Made::Refused(Refusal::BufferShape);
     }
-    state::update_lengths(restored_state(s))
+    state::update_lengths_of(restored_state(s), most)
 }

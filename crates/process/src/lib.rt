@@ -57,7 +57,7 @@ fn write(
     ensures written { λ _. ⌜ now (output .exit) ≡ outputAfter s mask (now (table .entry)) (workAfter s frames mask (now (input .entry)) at (now (work .entry))) to (now (output .entry)) ⌝ }
 {
     let channels = s.channels;
-    let stride = shape::stride_of(s);
+    let stride = work.len() / channels;
     let l2 = 2 * state::points_in(s);
     let read = shape::frames_to_read(s, frames);
     let share_in = input.len() / channels;

@@ -1,8 +1,8 @@
 -- What refusal 8's test tells of the lent areas, and that a working area is small. Assumes nothing.
 use mathlib.Core.Bool.{Bool, true, _&&_}
-use mathlib.Core.Path.{_≡_, sym}
-use Prim.Native.Nat.{ℕ, _+_, _*_, _/_, _%_, _≤_}
-use native.Mathlib.Nat.{mul-le-mul, min-le-right, div-add-mod}
+use mathlib.Core.Path.{_≡_, sym, ap, _∙_}
+use Prim.Native.Nat.{ℕ, _+_, _*_, _/_, _%_, _≤_, _<_}
+use native.Mathlib.Nat.{mul-comm, mul-div-cancel, mul-le-mul, min-le-right, div-add-mod}
 use native.Mathlib.Omega.{arith}
 use borrow.Author.Tests.{leb-true, eqb-true}
 use lib.Dec.{eqb, leb}
@@ -27,6 +27,10 @@ stride-small s k = omega (arith, points-few (s .kind) k, max-small (s .fixed) (p
 
 pub work-small : (s : State) → isState s ≡ true → s .channels * strideOf s ≤ 16 * 66048
 work-small s h = mul-le-mul (valid s h .channels-few) (stride-small s (valid s h .kind-holds))
+
+-- of a working area of the right length, a channel's samples are its share
+pub stride-share : (s : State) (work n : ℕ) → 0 < s .channels → s .channels * strideOf s ≡ work → n ≡ work / s .channels → n ≡ strideOf s
+stride-share s work n h e r = r ∙ ap (λ (k : ℕ). k / s .channels) (sym e ∙ mul-comm (s .channels) (strideOf s)) ∙ mul-div-cancel (strideOf s) h
 
 -- ---- one share of a lent area
 pub record Shared (channels area frames : ℕ) : Type 0 where

@@ -83,8 +83,7 @@ pub fn input_of(s: State) -> Size
     sizes::calculate_input_size(fixed, points_in(s), s.chunk, s.index, t1, t2)
 }
 
-// `output_of`, `sizes_hold` and `update_lengths` ask that the kind has passed its test; only our own crates
-// call these.
+// `output_of` and `update_lengths` ask that the kind has passed its test; only our own crates call these.
 pub fn output_of(s: State) -> Size
     requires { ⌜ kindHolds (s .kind) ≡ true ⌝ }
     ensures { λ r. ⌜ r ≡ outputOf s ⌝ }
@@ -133,25 +132,28 @@ pub fn steps_hold(s: State) -> bool
     steps::is_step(s.now, s.current) & steps::is_step(s.then, s.target)
 }
 
-pub fn maxima_hold(s: State) -> bool
+// `most`, here and below, is the record's maximum input: a caller works it out once for all that it asks.
+pub fn maxima_hold(s: State, most: Size) -> bool
+    requires { ⌜ most ≡ maxInputOf s ⌝ }
     ensures { λ b. ⌜ b ≡ maximaHold s ⌝ }
 {
-    sizes::is_frames(max_input_of(s)) & sizes::is_frames(max_output_of(s))
+    sizes::is_frames(most) & sizes::is_frames(max_output_of(s))
 }
 
-pub fn sizes_hold(s: State) -> bool
-    requires { ⌜ kindHolds (s .kind) ≡ true ⌝ }
+fn sizes_hold(s: State, most: Size) -> bool
+    requires { ⌜ (kindHolds (s .kind) ≡ true) × (most ≡ maxInputOf s) ⌝ }
     ensures { λ b. ⌜ b ≡ sizesHold s ⌝ }
 {
-    let most = max_input_of(s);
     sizes::size_is(input_of(s), s.input)
         & sizes::size_is(output_of(s), s.output)
         & sizes::size_holds(most, s.input)
         & sizes::size_holds(most, s.fill)
 }
 
-// The test of every call on a record: its kind, refusal 11, and StateRecord, refusal 10.
-pub fn is_state(s: State) -> bool
+// The test of every call on a record: its kind, refusal 11, and StateRecord, refusal 10. Only our own crates
+// call this form.
+pub fn is_state_of(s: State, most: Size) -> bool
+    requires { ⌜ most ≡ maxInputOf s ⌝ }
     ensures { λ b. ⌜ b ≡ isState s ⌝ }
 {
     let kind = s.kind;
@@ -161,9 +163,15 @@ pub fn is_state(s: State) -> bool
     counts_hold(s)
         & ratios_hold(s)
         & steps_hold(s)
-        & maxima_hold(s)
-        & sizes_hold(s)
+        & maxima_hold(s, most)
+        & sizes_hold(s, most)
         & bounds::is_index(s.index)
+}
+
+pub fn is_state(s: State) -> bool
+    ensures { λ b. ⌜ b ≡ isState s ⌝ }
+{
+    is_state_of(s, max_input_of(s))
 }
 
 // What a record that fails the test is refused with: 11 before 10.
@@ -178,15 +186,15 @@ pub fn fault_of(s: State) -> Refusal
 }
 
 // The one end of every call: sizes, refusal 6, the record put together.
-pub fn update_lengths(s: State) -> Made
-    requires { ⌜ kindHolds (s .kind) ≡ true ⌝ }
+pub fn update_lengths_of(s: State, most: Size) -> Made
+    requires { ⌜ (kindHolds (s .kind) ≡ true) × (most ≡ maxInputOf s) ⌝ }
     ensures { λ r. ⌜ saidMade r ≡ updateLengths s ⌝ }
 {
     let needed = input_of(s);
     let left = output_of(s);
     let input = sizes::frames_of(needed);
     let output = sizes::frames_of(left);
-    let within = sizes::size_holds(max_input_of(s), input);
+    let within = sizes::size_holds(most, input);
     if !(sizes::is_frames(needed) & sizes::is_frames(left) & within) {
         return Made::Refused(Refusal::SizeTooLarge);
     }
@@ -194,4 +202,11 @@ pub fn update_lengths(s: State) -> Made
     next.input = input;
     next.output = output;
     Made::Ready(next)
+}
+
+pub fn update_lengths(s: State) -> Made
+    requires { ⌜ kindHolds (s .kind) ≡ true ⌝ }
+    ensures { λ r. ⌜ saidMade r ≡ updateLengths s ⌝ }
+{
+    update_lengths_of(s, max_input_of(s))
 }

@@ -7,6 +7,9 @@ use Rattle.state.specs.Record.{saidMade}
 use Rattle.construction.proofs.first_lengths.Statement.{statement}
 use Rattle.construction.proofs.first_lengths.Tie as tie
 
+max-input-of-requires : tie.Need-max-input-of-requires
+max-input-of-requires c κs = search needs
+
 maxima-hold-requires : tie.Need-maxima-hold-requires
 maxima-hold-requires c κs = search needs
 
@@ -14,8 +17,8 @@ returns : tie.Need-returns
 unfolding firstLengths
 returns c = stop _ _ _ _ (failed (c .before .maxima-hold .ensures) (c .if1 .taken))
 
-update-lengths-requires : tie.Need-update-lengths-requires
-update-lengths-requires c κs = search needs
+update-lengths-of-requires : tie.Need-update-lengths-of-requires
+update-lengths-of-requires c κs = search needs
 
 enum-known-t : tie.Need-enum-known-t
 enum-known-t c = search needs
@@ -28,22 +31,23 @@ unfolding firstLengths
 returns-2 c =
     let u = c .before .before .before in
     pass _ _ _ _ _ (passed (u .before .before .maxima-hold .ensures) (u .before .if1 .left)) (
-    ap filled (sym (ap saidMade (c .before .t .given .1)) ∙ u .update-lengths .ensures))
+    ap filled (sym (ap saidMade (c .before .t .given .1)) ∙ u .update-lengths-of .ensures))
 
 returns-3 : tie.Need-returns-3
 unfolding firstLengths
 returns-3 c =
     let u = c .before .before .before in
     pass _ _ _ _ _ (passed (u .before .before .maxima-hold .ensures) (u .before .if1 .left)) (
-    ap filled (sym (ap saidMade (c .before .e .given .1)) ∙ u .update-lengths .ensures))
+    ap filled (sym (ap saidMade (c .before .e .given .1)) ∙ u .update-lengths-of .ensures))
 
 pub first-lengths-spec : {M : Type 1} → statement M
 first-lengths-spec =
     tie.close
     (tie.spec
+    max-input-of-requires
     maxima-hold-requires
     returns
-    update-lengths-requires
+    update-lengths-of-requires
     enum-known-t
     enum-known-e
     returns-2

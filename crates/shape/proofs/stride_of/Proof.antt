@@ -6,9 +6,6 @@ use Rattle.shape.proofs.Shape.{stride-small, stride-is}
 use Rattle.shape.proofs.stride_of.Statement.{statement}
 use Rattle.shape.proofs.stride_of.Tie as tie
 
-max-input-of-requires : tie.Need-max-input-of-requires
-max-input-of-requires c κs = search needs
-
 frames-of-requires : tie.Need-frames-of-requires
 frames-of-requires c κs = search needs
 
@@ -16,21 +13,20 @@ points-in-requires : tie.Need-points-in-requires
 points-in-requires c κs = search needs
 
 mul-result : tie.Need-mul-result
-mul-result c = omega (arith, c .points-in .ensures, points-few (c .before .before .before .args .s .kind) (c .before .before .before .pre))
+mul-result c = omega (arith, c .points-in .ensures, points-few (c .before .before .args .s .kind) (c .before .before .pre .0))
 
 add-result : tie.Need-add-result
 add-result c =
-    let s = c .before .before .before .args .s in
-    omega (arith, stride-small s (c .before .before .before .pre), stride-is s _ _ _ (c .before .before .max-input-of .ensures) (c .before .frames-of .ensures) (c .points-in .ensures))
+    let s = c .before .before .args .s in
+    omega (arith, stride-small s (c .before .before .pre .0), stride-is s _ _ _ (c .before .before .pre .1) (c .before .frames-of .ensures) (c .points-in .ensures))
 
 returns : tie.Need-returns
-returns c = stride-is (c .before .before .before .args .s) _ _ _ (c .before .before .max-input-of .ensures) (c .before .frames-of .ensures) (c .points-in .ensures)
+returns c = stride-is (c .before .before .args .s) _ _ _ (c .before .before .pre .1) (c .before .frames-of .ensures) (c .points-in .ensures)
 
 pub stride-of-spec : {M : Type 1} → statement M
 stride-of-spec =
     tie.close
     (tie.spec
-    max-input-of-requires
     frames-of-requires
     points-in-requires
     mul-result

@@ -22,7 +22,7 @@ table-holds-requires : tie.Need-table-holds-requires
 table-holds-requires c κs = search needs
 
 mask-fits-requires : tie.Need-mask-fits-requires
-mask-fits-requires c κs = omega (arith, valid _ (c .before .before .before .before .before .pre) .channels-few)
+mask-fits-requires c κs = omega (arith, valid _ (c .before .before .before .before .before .pre .0) .channels-few)
 
 returns : tie.Need-returns
 returns c =

@@ -9,12 +9,12 @@ use Rattle.shape.proofs.work_holds.Statement.{statement}
 use Rattle.shape.proofs.work_holds.Tie as tie
 
 stride-of-requires : tie.Need-stride-of-requires
-stride-of-requires c κs = kind-of _ (c .pre)
+stride-of-requires c κs = (kind-of _ (c .pre .0), c .pre .1)
 
 mul-result : tie.Need-mul-result
 mul-result c =
     let s = c .before .before .args .s in
-    omega (arith, work-small s (c .before .before .pre), ap (λ (n : ℕ). s .channels * n) (c .before .stride-of .ensures))
+    omega (arith, work-small s (c .before .before .pre .0), ap (λ (n : ℕ). s .channels * n) (c .before .stride-of .ensures))
 
 returns : tie.Need-returns
 returns c =

@@ -3,9 +3,6 @@ use borrow.Author.Needs.{needs}
 use Rattle.state.proofs.sizes_hold.Statement.{statement}
 use Rattle.state.proofs.sizes_hold.Tie as tie
 
-max-input-of-requires : tie.Need-max-input-of-requires
-max-input-of-requires c κs = search needs
-
 input-of-requires : tie.Need-input-of-requires
 input-of-requires c κs = search needs
 
@@ -25,13 +22,12 @@ size-holds-requires-2 : tie.Need-size-holds-requires-2
 size-holds-requires-2 c κs = search needs
 
 returns : tie.Need-returns
-returns c = rw (c .size-holds2 .ensures, c .before .size-holds .ensures, c .before .before .size-is2 .ensures, c .before .before .before .output-of .ensures, c .before .before .before .before .size-is .ensures, c .before .before .before .before .before .input-of .ensures, c .before .before .before .before .before .before .max-input-of .ensures)
+returns c = rw (c .size-holds2 .ensures, c .before .size-holds .ensures, c .before .before .size-is2 .ensures, c .before .before .before .output-of .ensures, c .before .before .before .before .size-is .ensures, c .before .before .before .before .before .input-of .ensures, c .before .before .before .before .before .before .pre .1)
 
 pub sizes-hold-spec : {M : Type 1} → statement M
 sizes-hold-spec =
     tie.close
     (tie.spec
-    max-input-of-requires
     input-of-requires
     size-is-requires
     output-of-requires

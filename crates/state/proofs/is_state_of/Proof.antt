@@ -1,10 +1,10 @@
--- `state::is_state` meets its contract: another kind has its own way out. Assumes nothing.
+-- `state::is_state_of` meets its contract: another kind has its own way out. Assumes nothing.
 use borrow.Author.Needs.{needs}
 use Rattle.error.proofs.Ladder.{failed, passed}
 use Rattle.state.specs.Record.{isState}
 use Rattle.state.proofs.Checked.{other-kind}
-use Rattle.state.proofs.is_state.Statement.{statement}
-use Rattle.state.proofs.is_state.Tie as tie
+use Rattle.state.proofs.is_state_of.Statement.{statement}
+use Rattle.state.proofs.is_state_of.Tie as tie
 
 kind-holds-requires : tie.Need-kind-holds-requires
 kind-holds-requires c κs = search needs
@@ -27,7 +27,7 @@ maxima-hold-requires c κs = search needs
 sizes-hold-requires : tie.Need-sizes-hold-requires
 sizes-hold-requires c κs =
     let k = c .before .before .before .before in
-    passed (k .before .kind-holds .ensures) (k .if1 .left)
+    (passed (k .before .kind-holds .ensures) (k .if1 .left), k .before .before .pre)
 
 is-index-requires : tie.Need-is-index-requires
 is-index-requires c κs = search needs
@@ -43,8 +43,8 @@ returns-2 c =
     let k = n .before in
     rw (passed (k .before .kind-holds .ensures) (k .if1 .left), c .is-index .ensures, z .sizes-hold .ensures, x .maxima-hold .ensures, t .steps-hold .ensures, r .ratios-hold .ensures, n .counts-hold .ensures)
 
-pub is-state-spec : {M : Type 1} → statement M
-is-state-spec =
+pub is-state-of-spec : {M : Type 1} → statement M
+is-state-of-spec =
     tie.close
     (tie.spec
     kind-holds-requires
