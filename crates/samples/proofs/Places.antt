@@ -26,32 +26,13 @@ module _ (channels share k : ℕ) (some : 0 < channels) (l : k < channels * shar
 pub place-frame : (channels share f c : ℕ) → c < channels → placeOf channels share (f * channels + c) ≡ c * share + f
 place-frame channels share f c l = rw (digits-mod f l, digits-div f l)
 
--- number k is the sample of a channel in a frame, and so has its place
-pub record Stands (channels share k channel frame place : ℕ) : Type 0 where
-  pub low : channel < channels
-  pub number : frame * channels + channel ≡ k
-  pub place-is : place ≡ channel * share + frame
-
+-- a number that is the place of the sample number k
 pub record Placed (channels share k place : ℕ) : Type 0 where
   pub is : place ≡ placeOf channels share k
 
-pub stands-placed : (channels share k channel frame place : ℕ) → Stands channels share k channel frame place → Placed channels share k place
-stands-placed channels share k channel frame place s = record { is = s .place-is ∙ sym (place-frame channels share frame channel (s .low)) ∙ ap (placeOf channels share) (s .number) }
-
--- the place lies in the area, and the area is no smaller than a frame or a channel
-pub placed-in : (channels share k place : ℕ) → Placed channels share k place → 0 < channels → k < channels * share
-    → (place < channels * share) × (channels ≤ channels * share) × (share ≤ channels * share)
-placed-in channels share k place p some l = (
-  rw (p .is) (place-in channels share k some l),
-  le-mul-of-pos-right channels (omega (arith, frame-in channels share k some l)),
-  omega (arith, le-mul-of-pos-right share some, mul-comm channels share),
-)
-
--- the same of a spot
-pub spot-in : (channels share channel frame place : ℕ) → channel < channels → frame * channels + channel < channels * share → place ≡ channel * share + frame
-    → (place < channels * share) × (channels ≤ channels * share) × (share ≤ channels * share)
-spot-in channels share channel frame place low l e =
-    placed-in channels share (frame * channels + channel) place (stands-placed channels share (frame * channels + channel) channel frame place (record { low = low; number = refl; place-is = e })) (omega arith) l
+-- the place lies in the area, and the area is no smaller than a frame
+pub placed-in : (channels share k place : ℕ) → Placed channels share k place → 0 < channels → k < channels * share → (place < channels * share) × (channels ≤ channels * share)
+placed-in channels share k place p some l = (rw (p .is) (place-in channels share k some l), le-mul-of-pos-right channels (omega (arith, frame-in channels share k some l)))
 
 -- the next frame's sample of the same channel stands in the next place
 pub placed-on : (channels share first j place : ℕ) → Placed channels share (first + j) place → 0 < channels → Placed channels share (first + (j + channels)) (place + 1)

@@ -3,35 +3,37 @@ use Prim.Native.Nat.{_+_, _-_, _≤_}
 use native.Mathlib.Omega.{arith}
 use Rattle.samples.proofs.Loops.{writing, gather-next, gather-done}
 use Rattle.samples.proofs.Order.{Went, Turn, went-none, turn-none, turn-done}
-use Rattle.samples.proofs.Places.{Stands, Placed, stands-placed, placed-in, placed-on}
+use Rattle.samples.proofs.Places.{Placed, placed-in, placed-on}
 use borrow.Author.Needs.{needs}
 use Rattle.samples.proofs.frames.gather.Statement.{statement}
 use Rattle.samples.proofs.frames.gather.Tie as tie
 
 abbrev Inv-loop2 : tie.InvT-loop2
-Inv-loop2 area channels share first bytes₀ n turns s i from₀ j₀ bytes from j = Placed channels share (first + j) from × Turn channels (writing channels share first area) n bytes₀ bytes i j
+Inv-loop2 area channels share first bytes₀ n turns i from₀ j₀ bytes from j = Placed channels share (first + j) from × Turn channels (writing channels share first area) n bytes₀ bytes i j
 
 abbrev μ-loop2 : tie.MeasureT-loop2
-μ-loop2 area channels share first bytes₀ n turns s i from₀ j₀ bytes from j = n - j
+μ-loop2 area channels share first bytes₀ n turns i from₀ j₀ bytes from j = n - j
 
 abbrev Inv-loop : tie.InvT-loop
-Inv-loop area channels share first bytes₀ n turns s₀ i₀ bytes s i =
-    (i ≤ turns) × Stands channels share (first + i) (s .channel) (s .frame) (s .place) × Went channels (writing channels share first area) n bytes₀ bytes i i
+Inv-loop area channels share first bytes₀ n turns i₀ bytes i = (i ≤ turns) × Went channels (writing channels share first area) n bytes₀ bytes i i
 
 abbrev μ-loop : tie.MeasureT-loop
-μ-loop area channels share first bytes₀ n turns s₀ i₀ bytes s i = turns - i
+μ-loop area channels share first bytes₀ n turns i₀ bytes i = turns - i
 
 least-requires : tie.Need-least-requires Inv-loop2 μ-loop2 Inv-loop μ-loop
 least-requires c κs = search needs
 
-spot-of-requires : tie.Need-spot-of-requires Inv-loop2 μ-loop2 Inv-loop μ-loop
-spot-of-requires c κs = search needs
-
 loop-holds : tie.Need-loop-holds Inv-loop2 μ-loop2 Inv-loop μ-loop
-loop-holds c = (omega arith, record { low = c .spot-of .ensures .0; number = omega arith; place-is = c .spot-of .ensures .2 }, went-none _ _ _ _)
+loop-holds c = (omega arith, went-none _ _ _ _)
+
+add-place-of : tie.Need-add-place-of Inv-loop2 μ-loop2 Inv-loop μ-loop
+add-place-of c = search needs
+
+place-of-requires : tie.Need-place-of-requires Inv-loop2 μ-loop2 Inv-loop μ-loop
+place-of-requires c κs = search needs
 
 loop2-holds : tie.Need-loop2-holds Inv-loop2 μ-loop2 Inv-loop μ-loop
-loop2-holds c = (stands-placed _ _ _ _ _ _ (c .before .loop .inv .1), turn-none _ _ _ _ _ (omega arith))
+loop2-holds c = (record { is = c .place-of .ensures .0 }, turn-none _ _ _ _ _ (omega arith))
 
 mul-put-sample : tie.Need-mul-put-sample Inv-loop2 μ-loop2 Inv-loop μ-loop
 mul-put-sample c = search needs
@@ -60,11 +62,6 @@ loop2-again c =
     let b = placed-in _ _ _ _ p (omega arith) (omega arith) in
     (placed-on _ _ _ _ _ p (omega arith), gather-next _ _ _ (c .before .before .before .before .before .before .before .before .before .before .before .before .before .args .area .now) _ (omega arith) _ _ _ _ _ _ _ (c .before .before .before .before .before .before .loop2 .inv .1) p (c .before .before .put-sample .ensures) (omega arith) (omega arith) (omega arith))
 
-next-spot-requires : tie.Need-next-spot-requires Inv-loop2 μ-loop2 Inv-loop μ-loop
-next-spot-requires c κs =
-    let s = c .before .before .before .loop .inv .1 in
-    (s .low, omega arith, omega arith, s .place-is)
-
 add-i : tie.Need-add-i Inv-loop2 μ-loop2 Inv-loop μ-loop
 add-i c = search needs
 
@@ -72,13 +69,13 @@ loop-less : tie.Need-loop-less Inv-loop2 μ-loop2 Inv-loop μ-loop
 loop-less c = search needs
 
 loop-again : tie.Need-loop-again Inv-loop2 μ-loop2 Inv-loop μ-loop
-loop-again c = (omega arith, record { low = c .next-spot .ensures .0; number = omega arith; place-is = c .next-spot .ensures .2 }, turn-done _ _ _ _ _ _ _ _ (c .before .before .before .before .loop .inv .2) (c .before .before .loop2 .inv .1) (omega arith))
+loop-again c = (omega arith, turn-done _ _ _ _ _ _ _ _ (c .before .before .before .before .loop .inv .1) (c .before .loop2 .inv .1) (omega arith))
 
 same-length : tie.Need-same-length Inv-loop2 μ-loop2 Inv-loop μ-loop
-same-length c = c .before .loop .inv .2 .long
+same-length c = c .before .loop .inv .1 .long
 
 returns : tie.Need-returns Inv-loop2 μ-loop2 Inv-loop μ-loop
-returns c = gather-done _ _ _ _ _ (omega arith) _ _ _ (c .before .loop .inv .2) (omega arith) (omega arith)
+returns c = gather-done _ _ _ _ _ (omega arith) _ _ _ (c .before .loop .inv .1) (omega arith) (omega arith)
 
 pub gather-spec : {M : Type 1} → statement M
 gather-spec =
@@ -89,8 +86,9 @@ gather-spec =
     Inv-loop
     μ-loop
     least-requires
-    spot-of-requires
     loop-holds
+    add-place-of
+    place-of-requires
     loop2-holds
     mul-put-sample
     mul-put-sample-2
@@ -100,7 +98,6 @@ gather-spec =
     add-j
     loop2-less
     loop2-again
-    next-spot-requires
     add-i
     loop-less
     loop-again
