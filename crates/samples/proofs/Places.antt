@@ -1,21 +1,18 @@
--- Places of interleaved samples in an area, and the loops over them. Assumes nothing.
+-- Places of interleaved samples in an area. Assumes nothing.
 use mathlib.Core.Bool.{Bool, true, false}
 use mathlib.Core.List.{List, [], _∷_}
 use mathlib.Core.Path.{_≡_, refl, sym, ap, _∙_}
 use Prim.Native.Nat.{ℕ, zero, suc, _+_, _*_, _/_, _%_, _<_, _≤_}
-use native.Mathlib.Nat.{mod-lt, div-lt-iff-lt-mul, mul-comm, div-add-mod'}
-use native.Mathlib.Numerals.{add-one}
+use native.Mathlib.Nat.{mod-lt, div-lt-iff-lt-mul, mul-comm, div-add-mod', le-mul-of-pos-right, add-mod-right, add-div-right}
 use native.Mathlib.Omega.{arith}
 use borrow.Author.Tests.{ltb-true, ltb-false}
 use lib.Arith.{digits-lt, digits-div, digits-mod}
 use lib.Dec.{ltb}
-use lib.Ieee.{Float, binary64, toBits}
+use lib.Ieee.{Float}
 use lib.ListN.{length, getD, set, length-set}
-use lib.Seq.{paste, length-paste, getD-set-same, getD-set-other}
-use Rattle.exact.specs.Doubles.{zeroF}
-use Rattle.samples.specs.Samples.{sampleAt, eightOf}
-use Rattle.samples.specs.Frames.{placeOf, spreadTo, gatheredTo}
-use Rattle.samples.proofs.Bytes.{length-bytes}
+use lib.Seq.{getD-set-same, getD-set-other}
+use Rattle.samples.specs.Samples.{sampleAt}
+use Rattle.samples.specs.Frames.{placeOf, spreadTo}
 
 -- the place lies in the area
 module _ (channels share k : ℕ) (some : 0 < channels) (l : k < channels * share) where
@@ -29,6 +26,20 @@ module _ (channels share k : ℕ) (some : 0 < channels) (l : k < channels * shar
 pub place-frame : (channels share f c : ℕ) → c < channels → placeOf channels share (f * channels + c) ≡ c * share + f
 place-frame channels share f c l = rw (digits-mod f l, digits-div f l)
 
+-- a number that is the place of the sample number k
+pub record Placed (channels share k place : ℕ) : Type 0 where
+  pub is : place ≡ placeOf channels share k
+
+-- the place lies in the area, and the area is no smaller than a frame
+pub placed-in : (channels share k place : ℕ) → Placed channels share k place → 0 < channels → k < channels * share → (place < channels * share) × (channels ≤ channels * share)
+placed-in channels share k place p some l = (rw (p .is) (place-in channels share k some l), le-mul-of-pos-right channels (omega (arith, frame-in channels share k some l)))
+
+-- the next frame's sample of the same channel stands in the next place
+pub placed-on : (channels share first j place : ℕ) → Placed channels share (first + j) place → 0 < channels → Placed channels share (first + (j + channels)) (place + 1)
+placed-on channels share first j place p some =
+    let on : first + (j + channels) ≡ first + j + channels = omega arith in
+    record { is = rw (p .is, on, add-mod-right (first + j) channels, add-div-right (first + j) some) (omega arith) }
+
 -- two samples have two places
 pub places-apart : (channels share j k : ℕ) → 0 < channels → j < channels * share → k < channels * share → placeOf channels share j ≡ placeOf channels share k → j ≡ k
 places-apart channels share j k some lj lk e =
@@ -38,54 +49,11 @@ places-apart channels share j k some lj lk e =
     let frame : j / channels ≡ k / channels = sym (digits-mod (j % channels) fj) ∙ ap (λ (n : ℕ). n % share) e ∙ digits-mod (k % channels) fk in
     sym (div-add-mod' j channels) ∙ ap (λ (q : ℕ). q * channels + j % channels) frame ∙ ap (λ (r : ℕ). k / channels * channels + r) channel ∙ div-add-mod' k channels
 
--- ---- reading: v is w with j samples
-pub record Spread (channels share first : ℕ) (bs : List ℕ) (w v : List Float) (j : ℕ) : Type 0 where
-  pub long : length v ≡ length w
-  pub is : v ≡ spreadTo channels share first bs w j
-
-pub spread-none : (channels share first : ℕ) (bs : List ℕ) (w : List Float) → Spread channels share first bs w w 0
-unfolding spreadTo
-spread-none channels share first bs w = record { long = refl; is = refl }
-
-pub spread-next : (channels share first : ℕ) (bs : List ℕ) (w v : List Float) (j p : ℕ) (x : Float) → Spread channels share first bs w v j
-    → p ≡ placeOf channels share (first + j) → x ≡ sampleAt bs (8 * j) → Spread channels share first bs w (set v p x) (j + 1)
-unfolding spreadTo
-spread-next channels share first bs w v j p x s e f = record {
-  long = simp length-set (s .long);
-  is = rw (s .is, e, f, add-one j);
-}
-
-pub spread-done : (channels share first : ℕ) (bs : List ℕ) (w v : List Float) (j n : ℕ) → Spread channels share first bs w v j → j ≡ n → v ≡ spreadTo channels share first bs w n
-spread-done channels share first bs w v j n s e = s .is ∙ ap (λ (i : ℕ). spreadTo channels share first bs w i) e
-
 -- what is read in the area stands there
 pub inside : (w : List Float) (p : ℕ) (y z : Float) → p < length w → getD w p y ≡ getD w p z
 inside [] p y z l = absurd (omega arith)
 inside (x ∷ w) zero y z l = refl
 inside (x ∷ w) (suc p) y z l = inside w p y z (omega arith)
-
--- ---- writing: b is bs with the bytes of j samples
-pub record Gathered (channels share first : ℕ) (w : List Float) (bs b : List ℕ) (j : ℕ) : Type 0 where
-  pub long : length b ≡ length bs
-  pub is : b ≡ gatheredTo channels share first w bs j
-
-pub gathered-none : (channels share first : ℕ) (w : List Float) (bs : List ℕ) → Gathered channels share first w bs bs 0
-unfolding gatheredTo
-gathered-none channels share first w bs = record { long = refl; is = refl }
-
-pub gathered-next : (channels share first : ℕ) (w : List Float) (bs b b′ : List ℕ) (j p n : ℕ) (z : Float) → Gathered channels share first w bs b j
-    → j < n → 8 * n ≤ length bs → p < length w → p ≡ placeOf channels share (first + j) → b′ ≡ paste b (8 * j) (eightOf (toBits binary64 (getD w p z))) 8
-    → Gathered channels share first w bs b′ (j + 1)
-unfolding gatheredTo
-gathered-next channels share first w bs b b′ j p n z g l h i e f =
-    let room : 8 * j + 8 ≤ length b = omega (arith, g .long) in
-    record {
-      long = ap length f ∙ length-paste b (8 * j) (eightOf (toBits binary64 (getD w p z))) 8 room (omega (arith, length-bytes (toBits binary64 (getD w p z)) 0 8)) ∙ g .long;
-      is = rw (f, inside w p z zeroF i, e, g .is, add-one j);
-    }
-
-pub gathered-done : (channels share first : ℕ) (w : List Float) (bs b : List ℕ) (j n : ℕ) → Gathered channels share first w bs b j → j ≡ n → b ≡ gatheredTo channels share first w bs n
-gathered-done channels share first w bs b j n g e = g .is ∙ ap (λ (i : ℕ). gatheredTo channels share first w bs i) e
 
 -- ---- what a reader may ask: each sample that was read stands in its place
 length-spread : (channels share first : ℕ) (bs : List ℕ) (w : List Float) (n : ℕ) → length (spreadTo channels share first bs w n) ≡ length w

@@ -1,5 +1,6 @@
 // Samples between interleaved bytes and an area, channel after channel. Only our own crates call these
 // functions, and each has a `requires`.
+use crate::counts::least;
 use crate::little::put_sample;
 use crate::little::sample_at;
 ghost use mathlib.Core.Path.{_≡_};
@@ -15,27 +16,40 @@ fn place_of(channels: usize, share: usize, k: usize) -> usize
     (k % channels) * share + k / channels
 }
 
-// n samples from the bytes become the samples number `first` and on of the area.
+// n samples from the bytes become the samples number `first` and on of the area. A turn places
+// one channel's: from one of them to the next the place is one more, with nothing to divide.
 pub fn spread(bytes: &[u8], n: usize, area: &mut [f64], channels: usize, share: usize, first: usize)
     requires { ⌜ (0 < channels) × (first + n ≤ channels * share) × (channels * share ≤ 1048576) ⌝ }
     requires { ⌜ (channels * share ≤ length (now area)) × (8 * n ≤ length (now bytes)) ⌝ }
     ensures { λ _. ⌜ now (area .exit) ≡ spreadTo channels share first (now (bytes .entry)) (now (area .entry)) n ⌝ }
 {
-    for j in 0..n {
-        let x = sample_at(bytes, 8 * j);
-        let place = place_of(channels, share, first + j);
-        area[place] = x;
+    let turns = least(channels, n);
+    for i in 0..turns {
+        let mut to = place_of(channels, share, first + i);
+        let mut j = i;
+        while j < n {
+            let x = sample_at(bytes, 8 * j);
+            area[to] = x;
+            to += 1;
+            j += channels;
+        }
     }
 }
 
-// The n samples number `first` and on of the area become bytes.
+// The n samples number `first` and on of the area become bytes, one channel's in a turn.
 pub fn gather(area: &[f64], channels: usize, share: usize, first: usize, bytes: &mut [u8], n: usize)
     requires { ⌜ (0 < channels) × (first + n ≤ channels * share) × (channels * share ≤ 1048576) ⌝ }
     requires { ⌜ (channels * share ≤ length (now area)) × (8 * n ≤ length (now bytes)) ⌝ }
     ensures { λ _. ⌜ now (bytes .exit) ≡ gatheredTo channels share first (now (area .entry)) (now (bytes .entry)) n ⌝ }
 {
-    for j in 0..n {
-        let place = place_of(channels, share, first + j);
-        put_sample(bytes, 8 * j, area[place]);
+    let turns = least(channels, n);
+    for i in 0..turns {
+        let mut from = place_of(channels, share, first + i);
+        let mut j = i;
+        while j < n {
+            put_sample(bytes, 8 * j, area[from]);
+            from += 1;
+            j += channels;
+        }
     }
 }

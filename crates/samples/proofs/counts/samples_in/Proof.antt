@@ -2,7 +2,6 @@
 use mathlib.Core.Path.{refl}
 use native.Mathlib.Omega.{arith}
 use Rattle.samples.proofs.Products.{small-product}
-use borrow.Author.Needs.{needs}
 use Rattle.samples.proofs.counts.samples_in.Statement.{statement}
 use Rattle.samples.proofs.counts.samples_in.Tie as tie
 
