@@ -2,6 +2,4 @@
 pub mod Values
 pub mod Frames
 pub mod Run
-pub mod Fills
-pub mod Joined
 pub mod Apart

@@ -78,7 +78,7 @@ fn write(
     let t = state::step_now(s);
     let d = plan::t_ratio_increment(s);
     let kind = s.kind;
-    frames::run_all(
+    kernel_frames::run_all(
         kind,
         table,
         s.input,

@@ -1,57 +1,76 @@
--- `frames::run_all` meets its contract. Assumes nothing.
+-- `frames::run_all` meets its contract. The invariant: the output is that of the first f frames. Assumes nothing.
+use Prim.Native.Nat.{_≤_, _-_}
+use native.Mathlib.Omega.{arith}
 use borrow.Author.Needs.{needs}
 use denote.Ref.{now}
-use native.Mathlib.Omega.{arith}
-use Rattle.frames.proofs.Joined.{kernel-asks, kernel-ran}
+use mathlib.Core.Path.{_∙_, sym}
+use Rattle.path.proofs.Sites.{site-lies}
+use Rattle.frames.proofs.Run.{Ran, ran-none, ran-next, ran-done}
 use Rattle.frames.proofs.run_all.Statement.{statement}
 use Rattle.frames.proofs.run_all.Tie as tie
 
-enum-known-kind : tie.Need-enum-known-kind
-enum-known-kind c = search needs
+abbrev Inv-loop : tie.InvT-loop
+Inv-loop kind table needed mask work stride t d i n at out₀ share channels moment₀ f₀ out moment f =
+    (f ≤ n) × Ran kind table needed mask work stride t d i at share channels out₀ out moment f
 
-slice-aggregate-run-kernel : tie.Need-slice-aggregate-run-kernel
-slice-aggregate-run-kernel c = search needs
+abbrev μ-loop : tie.MeasureT-loop
+μ-loop kind table needed mask work stride t d i n at out₀ share channels moment₀ f₀ out moment f =
+    n - f
 
-slice-aggregate-run-kernel-2 : tie.Need-slice-aggregate-run-kernel-2
-slice-aggregate-run-kernel-2 c = search needs
+loop-holds : tie.Need-loop-holds Inv-loop μ-loop
+loop-holds c = (omega arith, ran-none _ _ _ _ _ _ _ _ _ _ _ _ _)
 
-run-kernel-requires : tie.Need-run-kernel-requires
-run-kernel-requires c κs =
-    let p = c .before .before .before .before .before .before .before .before .before .pre in
-    let k = kernel-asks _ _ _ _ _ (c .before .before .before .before .kind .given .1) (p .0 .1) (p .1 .1 .1 .1) in
-    (k .0, (p .1 .0, (p .1 .1 .0, ((p .1 .1 .1 .0, k .1), (omega arith, omega arith)))))
+step-index-requires : tie.Need-step-index-requires Inv-loop μ-loop
+step-index-requires c κs = search needs
 
-enum-told : tie.Need-enum-told
-enum-told c = search needs
+site-of-requires : tie.Need-site-of-requires Inv-loop μ-loop
+site-of-requires c κs = search needs
 
-run-sites-requires : tie.Need-run-sites-requires
-run-sites-requires c κs = search needs
+add-write-frame : tie.Need-add-write-frame Inv-loop μ-loop
+add-write-frame c = search needs
 
-same-length : tie.Need-same-length
-same-length c = search needs
+write-frame-requires : tie.Need-write-frame-requires Inv-loop μ-loop
+write-frame-requires c κs =
+    let s = c .before .before .before .before .before .before .before .before in
+    let l = c .before .before .before .before .loop in
+    let k = s .pre .0 in
+    let r = s .pre .1 .1 in
+    (s .pre .1 .0 .1, ((r .0 .0, r .0 .1 ∙ sym (l .inv .1 .long)), (omega arith, site-lies (s .args .kind) (k .0) (s .args .needed) _ _ _ _ (r .1 .1) (k .1) (c .before .site-of .ensures))))
 
-returns : tie.Need-returns
-returns c =
-    let s = c .before .before .before .before .before .before .before .before .before .before .before .before .before .before in
-    kernel-ran (s .args .kind) _ (now (s .args .table)) (s .args .needed) (s .args .mask) (now (s .args .work)) (s .args .stride) (s .args .t) (s .args .d) (s .args .i) (s .args .n) (s .args .at) (s .args .share) (s .args .channels) (now (s .args .out)) _ (c .before .before .before .before .before .before .before .before .before .kind .given .1) (c .before .before .before .before .run-kernel .ensures)
+add-f : tie.Need-add-f Inv-loop μ-loop
+add-f c = search needs
 
-same-length-2 : tie.Need-same-length-2
-same-length-2 c = search needs
+loop-less : tie.Need-loop-less Inv-loop μ-loop
+loop-less c = search needs
 
-returns-2 : tie.Need-returns-2
-returns-2 c = search needs
+loop-again : tie.Need-loop-again Inv-loop μ-loop
+loop-again c =
+    let s = c .before .before .before .before .before .before .before .before .before .before .before in
+    let l = c .before .before .before .before .before .before .before .loop in
+    let f = c .before .before .write-frame in
+    let p = c .before .before .before .before .site-of in
+    let m = c .before .before .before .before .before .step-index in
+    (omega arith, ran-next _ (now (s .args .table)) _ _ (now (s .args .work)) _ _ _ _ (s .args .at) (s .args .share) (s .args .channels) (now (s .args .out)) (l .out) _ (l .moment) (m .result) (p .result) (l .f) (l .inv .1) (omega arith) (omega arith) (f .kept .1 .1 .1 .1 .1 .1 .0) (m .ensures) (p .ensures) (f .ensures))
+
+same-length : tie.Need-same-length Inv-loop μ-loop
+same-length c = c .before .loop .inv .1 .long
+
+returns : tie.Need-returns Inv-loop μ-loop
+returns c = ran-done _ _ _ _ _ _ _ _ _ _ _ _ _ _ (c .before .loop .moment) (c .before .loop .f) (c .before .before .before .before .before .args .n) (c .before .loop .inv .1) (omega arith)
 
 pub run-all-spec : {M : Type 1} → statement M
 run-all-spec =
     tie.close
     (tie.spec
-    enum-known-kind
-    slice-aggregate-run-kernel
-    slice-aggregate-run-kernel-2
-    run-kernel-requires
-    enum-told
-    run-sites-requires
+    Inv-loop
+    μ-loop
+    loop-holds
+    step-index-requires
+    site-of-requires
+    add-write-frame
+    write-frame-requires
+    add-f
+    loop-less
+    loop-again
     same-length
-    returns
-    same-length-2
-    returns-2)
+    returns)

@@ -1,4 +1,4 @@
--- `frames::run_kernel` meets its contract. The invariant: the output is that of the first f frames. Assumes nothing.
+-- `kernel_frames::run_kernel` meets its contract. The invariant: the output is that of the first f frames. Assumes nothing.
 use Prim.Native.Nat.{_≤_, _-_}
 use native.Mathlib.Omega.{arith}
 use borrow.Author.Needs.{needs}
@@ -6,10 +6,10 @@ use denote.Ref.{now}
 use mathlib.Core.Path.{_≡_, refl, sym, _∙_}
 use lib.ListN.{length}
 use Rattle.kinds.specs.declared.Kind.the-variants.{Polynomial}
 use Rattle.frames.proofs.Run.{Ran, ran-none, ran-done}
-use Rattle.frames.proofs.Joined.{ran-more}
-use Rattle.frames.proofs.run_kernel.Statement.{statement}
-use Rattle.frames.proofs.run_kernel.Tie as tie
+use Rattle.kernel_frames.proofs.Joined.{ran-more}
+use Rattle.kernel_frames.proofs.run_kernel.Statement.{statement}
+use Rattle.kernel_frames.proofs.run_kernel.Tie as tie
 
 abbrev Inv-loop : tie.InvT-loop
 Inv-loop degree table needed mask work stride t d i n at out₀ share channels places₀ fracs₀ moment₀ f₀ out places fracs moment f =

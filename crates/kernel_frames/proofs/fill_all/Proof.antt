@@ -1,4 +1,4 @@
--- `frames::fill_all` meets its contract. The invariant: the first c channels have the frames. Assumes nothing.
+-- `kernel_frames::fill_all` meets its contract. The invariant: the first c channels have the frames. Assumes nothing.
 use Prim.Native.Nat.{_≤_, _-_, _+_, _*_}
 use native.Mathlib.Omega.{arith}
 use borrow.Author.Needs.{needs}
@@ -6,11 +6,12 @@ use denote.Ref.{now}
 use lib.ListN.{length}
 use Rattle.area.proofs.Parts.{room}
 use Rattle.area.proofs.Parted.{Parted, parted-none, parted-done, lent-long}
-use Rattle.frames.specs.Turns.{onIn, someFrames}
+use Rattle.frames.specs.Turns.{onIn}
+use Rattle.kernel_frames.specs.Turns.{someFrames}
 use Rattle.frames.proofs.Run.{on-next}
-use Rattle.frames.proofs.Fills.{frames-long, fit-same}
-use Rattle.frames.proofs.fill_all.Statement.{statement}
-use Rattle.frames.proofs.fill_all.Tie as tie
+use Rattle.kernel_frames.proofs.Fills.{frames-long, fit-same}
+use Rattle.kernel_frames.proofs.fill_all.Statement.{statement}
+use Rattle.kernel_frames.proofs.fill_all.Tie as tie
 
 abbrev Inv-loop : tie.InvT-loop
 Inv-loop degree mask work stride places fracs k n out₀ share channels c₀ out c =

@@ -28,10 +28,11 @@ use Rattle.path.specs.Sites.{siteOf}
 use Rattle.path.specs.Turns.{PlacedTo}
 use Rattle.path.proofs.Places.{place-reach}
 use Rattle.kernel_runs.specs.Runs.{kernelOn, runTo, FitTo}
 use Rattle.frames.specs.Run.{kernelAt, valueAt, framesTo, ranIn, ranAll}
-use Rattle.frames.specs.Turns.{onIn, someFrames, filledAll}
+use Rattle.frames.specs.Turns.{onIn}
+use Rattle.kernel_frames.specs.Turns.{someFrames, filledAll}
 use Rattle.frames.proofs.Frames.{frameOf, frames-long}
 use Rattle.frames.proofs.Run.{ran-keeps, Ran}
 
 -- ---- the path, and the frames of one channel, from where f frames left off
 module _ (t d i : Float) (f : ℕ) where

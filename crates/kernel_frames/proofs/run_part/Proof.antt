@@ -1,12 +1,12 @@
--- `frames::run_part` meets its contract. Assumes nothing.
+-- `kernel_frames::run_part` meets its contract. Assumes nothing.
 use borrow.Author.Needs.{needs}
 use denote.Ref.{now}
 use mathlib.Core.Path.{refl, _∙_}
 use native.Mathlib.Omega.{arith}
 use Rattle.path.proofs.Places.{shift-small, last-small}
-use Rattle.frames.proofs.Joined.{filled-ran, placed-fit, placed-as}
-use Rattle.frames.proofs.run_part.Statement.{statement}
-use Rattle.frames.proofs.run_part.Tie as tie
+use Rattle.kernel_frames.proofs.Joined.{filled-ran, placed-fit, placed-as}
+use Rattle.kernel_frames.proofs.run_part.Statement.{statement}
+use Rattle.kernel_frames.proofs.run_part.Tie as tie
 
 shift-of-requires : tie.Need-shift-of-requires
 shift-of-requires c κs = search needs
@@ -42,8 +42,8 @@ returns c =
     let p = placed-as (s .args .degree) (now (s .args .table)) (s .args .needed) _ _ _ _ _ _ _ _ (c .before .before .before .before .before .before .before .before .before .before .before .before .before .before .before .before .shift-of .ensures) (c .before .before .before .before .before .before .before .before .before .before .before .before .before .before .before .last-of .ensures) (w .ensures .1 (c .before .before .before .before .before .before .before .if1 .taken)) in
     (w .ensures .0, c .before .before .before .fill-all .ensures ∙ filled-ran (s .args .degree) (now (s .args .table)) (s .args .needed) _ _ _ _ _ (s .args .mask) (now (s .args .work)) (s .args .stride) (s .args .n) (s .args .at) (s .args .share) (s .args .channels) (now (s .args .out)) p)
 
-run-sites-requires : tie.Need-run-sites-requires
-run-sites-requires c κs = let p = c .before .before .before .before .before .before .before .before .before .before .before .before .before .before .before .before .pre in ((refl, p .0), (p .1 .0, (p .1 .1 .0, p .1 .1 .1 .0)))
+run-all-requires : tie.Need-run-all-requires
+run-all-requires c κs = let p = c .before .before .before .before .before .before .before .before .before .before .before .before .before .before .before .before .pre in ((refl, p .0), (p .1 .0, (p .1 .1 .0, p .1 .1 .1 .0)))
 
 same-length-4 : tie.Need-same-length-4
 same-length-4 c = search needs
@@ -69,7 +69,7 @@ run-part-spec =
     same-length-2
     same-length-3
     returns
-    run-sites-requires
+    run-all-requires
     same-length-4
     same-length-5
     same-length-6

@@ -1,9 +1,9 @@
--- `frames::fill_channel` meets its contract. Assumes nothing.
+-- `kernel_frames::fill_channel` meets its contract. Assumes nothing.
 use borrow.Author.Needs.{needs}
 use denote.Ref.{now}
-use Rattle.frames.proofs.Fills.{fill-asks, filled}
-use Rattle.frames.proofs.fill_channel.Statement.{statement}
-use Rattle.frames.proofs.fill_channel.Tie as tie
+use Rattle.kernel_frames.proofs.Fills.{fill-asks, filled}
+use Rattle.kernel_frames.proofs.fill_channel.Statement.{statement}
+use Rattle.kernel_frames.proofs.fill_channel.Tie as tie
 
 add-kernel-run : tie.Need-add-kernel-run
 add-kernel-run c = search needs

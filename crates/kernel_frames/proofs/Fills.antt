@@ -11,7 +11,7 @@ use Rattle.asynchro_fast.specs.declared.PolynomialDegree.{PolynomialDegree}
 use Rattle.channel.specs.Mask.{whereOn}
 use Rattle.kernel_runs.specs.Runs.{runTo, FitTo, Runs}
 use Rattle.kernel_runs.proofs.Runs.{run-long}
-use Rattle.frames.specs.Turns.{someFrames}
+use Rattle.kernel_frames.specs.Turns.{someFrames}
 
 -- ---- one share, whose part from k on is lent
 lent-long : (o : List Float) (k n : ℕ) → k + n ≤ length o → length (take (k + n - k) (drop k o)) ≡ n

@@ -1,0 +1,2 @@
+-- A block's frames, a run of a kernel's at a time. Definitions only.
+pub mod Turns
