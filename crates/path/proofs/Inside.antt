@@ -6,8 +6,6 @@ use native.Mathlib.Nat.{mul-le-mul-right}
 use native.Mathlib.Omega.{arith}
 use lib.Dec.{T}
 use lib.Ieee.{Float, binary64, low, fits}
-use lib.Ieee.Fits.{add-fits}
-use Rattle.exact.specs.Doubles.{_+f_}
 use Rattle.exact.specs.Whole.{Whole, Less, AtMost}
 use Rattle.exact.specs.Exact.{exact, Number}
 use Rattle.asynchro_fast.proofs.Laws as degrees
@@ -19,7 +17,7 @@ use Rattle.path.specs.Path.{pathAt}
 use Rattle.path.specs.Places.{shiftOf, lastOf}
 use Rattle.path.specs.Sites.{siteOf, reached, allReach}
 use Rattle.path.proofs.Bounds.{place-bounds}
-use Rattle.path.proofs.Path.{reach-each}
+use Rattle.path.proofs.Path.{path-fits, reach-each}
 
 -- x is a number of at least -(2l + 1), and below c + 1
 pub record Inside (l c : ℕ) (x : Float) : Type 0 where
@@ -57,10 +55,6 @@ site-inside (Sinc points factor blend) c x t e =
     record { number = p .number; atLeast = p .atLeast; below = grid-below (2 ^ low binary64) points c (exact binary64 x) (p .below) }
 
 -- ---- along the path: where every frame is in reach, every index is such a number
-pub path-fits : (t d i : Float) (f : ℕ) → T (fits binary64 (pathAt t d i (suc f) .index))
-unfolding pathAt
-path-fits t d i f = add-fits binary64 (pathAt t d i f .index) (pathAt t d i f .step +f d)
-
 pub reach-inside : (k : Kind) (c : ℕ) (t d i : Float) (n : ℕ) → allReach k c t d i n ≡ true → (f : ℕ) → 1 ≤ f → f ≤ n → Inside (pointsOf k) c (pathAt t d i f .index)
 reach-inside k c t d i n r zero l m = absurd (omega arith)
 reach-inside k c t d i n r (suc f) l m = site-inside k c (pathAt t d i (suc f) .index) (path-fits t d i f) (reach-each k c t d i n r (suc f) l m)

@@ -12,10 +12,11 @@ use Rattle.kinds.proofs.Laws.{sized}
 use Rattle.grid_places.proofs.Inner.{inner-held}
 use Rattle.path.specs.declared.Span.{Span}
 use Rattle.path.specs.Places.{shiftOf, lastOf}
-use Rattle.path.specs.Sites.{siteOf, reached}
-use Rattle.path.specs.Turns.{innerSpan, isWithin}
+use Rattle.path.specs.Sites.{siteOf, reached, allReach}
+use Rattle.path.specs.Turns.{innerSpan, isWithin, allAlong}
 use Rattle.path.proofs.Places.{shift-small, last-small}
 use Rattle.path.proofs.Bounds.{place-bounds}
+use Rattle.path.proofs.Path.{along-weaker, reach-along}
 use Rattle.path.proofs.Spans.{span-is}
 
 inner-reached : (k : Kind) (needed : ℕ) (x : Float) → kindHolds k ≡ true → needed ≤ 65536 → T (fits binary64 x) → isWithin (innerSpan k needed) x ≡ true → reached (siteOf k needed x) ≡ true
@@ -27,6 +28,9 @@ inner-reached (Sinc points factor blend) needed x h l t e =
     let p = place-bounds (2 * points - 1) (points + needed - 2) x t (sym (span-is (2 * points - 1) (points + needed - 2) (omega arith) (omega arith) x t) ∙ e) in
     inner-held blend factor (2 * points) (points + needed) x (z .factor-least) (z .factor-most) (omega arith) (omega arith) (omega arith) (omega arith) (p .number) (p .atLeast) (p .below)
 
-pub inner-told : (k : Kind) (needed : ℕ) (x : Float) → kindHolds k ≡ true → needed ≤ 65536 → T (fits binary64 x) → (span : Span) (b : Bool) → span ≡ innerSpan k needed → b ≡ isWithin span x → b ≡ true
-    → true ≡ reached (siteOf k needed x)
-inner-told k needed x h l t span b s w e = sym (inner-reached k needed x h l t (sym (w ∙ ap (λ (z : Span). isWithin z x) s) ∙ e))
+-- so where every index of a path lies within it, every frame is in reach
+pub inner-all : (k : Kind) (needed : ℕ) (t d i : Float) (n : ℕ) → kindHolds k ≡ true → needed ≤ 65536 → (span : Span) (b : Bool) → span ≡ innerSpan k needed → b ≡ allAlong (isWithin span) t d i n → b ≡ true
+    → b ≡ allReach k needed t d i n
+inner-all k needed t d i n h l span b s w e =
+    let a : allAlong (isWithin (innerSpan k needed)) t d i n ≡ true = sym (w ∙ ap (λ (z : Span). allAlong (isWithin z) t d i n) s) ∙ e in
+    e ∙ sym (sym (reach-along k needed t d i n) ∙ along-weaker (isWithin (innerSpan k needed)) t d i (λ x. reached (siteOf k needed x)) (λ x f c. inner-reached k needed x h l f c) n a)

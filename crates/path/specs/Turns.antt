@@ -1,5 +1,5 @@
 -- What a turn of a loop over the frames asks of a site, and what the code works out on the way to a place: nothing that a reader needs to believe, for no promise of a public function goes through it. Definitions only.
-use mathlib.Core.Bool.{Bool, _&&_}
+use mathlib.Core.Bool.{Bool, true, _&&_}
 use mathlib.Core.List.{List}
 use mathlib.Core.Path.{_≡_}
 use Prim.Native.Nat.{ℕ, zero, suc, _+_, _-_, _*_, _≤_}
@@ -30,6 +30,12 @@ innerSpan (Sinc points factor blend) needed = spanOf (2 * points - 1) (points + 
 
 abbrev pub isWithin : Span → Float → Bool
 isWithin span x = le (span .least) x && lt x (span .end)
+
+-- a test that each of the first n indexes of a path passes
+unfoldable pub allAlong : (Float → Bool) → Float → Float → Float → ℕ → Bool
+unfolding pathAt
+allAlong test t d i zero = true
+allAlong test t d i (suc f) = allAlong test t d i f && test (pathAt t d i (suc f) .index)
 
 -- a place and its fraction at place f of a list
 abbrev pub putStart : Place → ℕ → List ℕ → List ℕ

@@ -15,7 +15,7 @@ ghost use Rattle.path.specs.Places.{
   isAt,
 };
 ghost use Rattle.path.specs.Sites.{siteOf, reached, allReach};
-ghost use Rattle.path.specs.Turns.{spanOf, innerSpan, isWithin, putStart, putFrac, PlacedTo};
+ghost use Rattle.path.specs.Turns.{spanOf, innerSpan, isWithin, allAlong, putStart, putFrac, PlacedTo};
 
 // Where a block is between two frames: the index, and the step that led to it.
 pub struct Moment {
@@ -168,35 +168,50 @@ fn is_reached(site: Site) -> bool
     }
 }
 
-// Whether the samples of the index x are all there: within the span there is no more to ask.
-fn in_reach(span: Span, kind: Kind, needed: usize, x: f64) -> bool
-    requires { ⌜ (kindHolds kind ≡ true) × (needed ≤ 65536) ⌝ }
-    requires { ⌜ span ≡ innerSpan kind needed ⌝ }
-    ensures { λ b. ⌜ b ≡ reached (siteOf kind needed x) ⌝ }
-{
-    if is_within(span, x) {
-        return true;
-    }
-    is_reached(site_of(kind, needed, x))
-}
-
-// Reach's pass: every frame is looked at, with no early way out.
-pub fn look(kind: Kind, needed: usize, t: f64, d: f64, i: f64, n: usize) -> Looked
-    requires { ⌜ (kindHolds kind ≡ true) × (needed ≤ 65536) ⌝ }
-    ensures reach { λ r. ⌜ r .reach ≡ allReach kind needed t d i n ⌝ }
+// The path, and whether every index lies within the span: two comparisons a frame.
+fn look_within(span: Span, t: f64, d: f64, i: f64, n: usize) -> Looked
+    ensures reach { λ r. ⌜ r .reach ≡ allAlong (isWithin span) t d i n ⌝ }
     ensures index { λ r. ⌜ r .index ≡ pathAt t d i n .index ⌝ }
 {
-    let span = inner_span(kind, needed);
     let mut at = Moment { index: i, step: t };
     let mut reach = true;
     for f in 0..n {
         at = step_index(at, d);
-        reach = reach & in_reach(span, kind, needed, at.index);
+        reach = reach & is_within(span, at.index);
+    }
+    let index = at.index;
+    Looked { reach, index }
+}
+
+// The path, and whether every frame's samples are there, by its site.
+fn look_sites(kind: Kind, needed: usize, t: f64, d: f64, i: f64, n: usize) -> Looked
+    requires { ⌜ (kindHolds kind ≡ true) × (needed ≤ 65536) ⌝ }
+    ensures reach { λ r. ⌜ r .reach ≡ allReach kind needed t d i n ⌝ }
+    ensures index { λ r. ⌜ r .index ≡ pathAt t d i n .index ⌝ }
+{
+    let mut at = Moment { index: i, step: t };
+    let mut reach = true;
+    for f in 0..n {
+        at = step_index(at, d);
+        reach = reach & is_reached(site_of(kind, needed, at.index));
     }
     Looked {
         reach,
         index: at.index,
     }
+}
+
+// Reach's pass: every frame is looked at, with no early way out. Within the inner span there is no more to ask.
+pub fn look(kind: Kind, needed: usize, t: f64, d: f64, i: f64, n: usize) -> Looked
+    requires { ⌜ (kindHolds kind ≡ true) × (needed ≤ 65536) ⌝ }
+    ensures reach { λ r. ⌜ r .reach ≡ allReach kind needed t d i n ⌝ }
+    ensures index { λ r. ⌜ r .index ≡ pathAt t d i n .index ⌝ }
+{
+    let seen = look_within(inner_span(kind, needed), t, d, i, n);
+    if seen.reach {
+        return seen;
+    }
+    look_sites(kind, needed, t, d, i, n)
 }
 
 // A found place and its fraction go to place f of the two lists.
