@@ -2,12 +2,11 @@
 use mathlib.Core.Bool.{Bool, true, false}
 use mathlib.Core.List.{List, _∷_, [], _++_, append-assoc, append-nil}
 use mathlib.Core.Path.{_≡_, refl, sym, ap, _∙_, subst}
-use Prim.Native.Nat.{ℕ, zero, suc, _+_, _*_, _≤_, _<_}
+use Prim.Native.Nat.{ℕ, zero, suc, _+_, _*_, _≤_}
 use native.Mathlib.Nat.{add-zero, add-suc, add-assoc}
-use native.Mathlib.Numerals.{add-one}
 use native.Mathlib.Omega.{arith}
 use lib.Ieee.{Float}
-use lib.ListN.{length, getD, take, drop}
+use lib.ListN.{length, take, drop}
 use lib.Seq.{paste, take-paste, drop-paste, take-append-add, take-all, drop-drop}
 use Rattle.asynchro_fast.specs.declared.PolynomialDegree.{PolynomialDegree}
 use Rattle.asynchro_fast.specs.Degrees.{pointsOf}
@@ -23,7 +22,7 @@ use Rattle.path.specs.declared.Place.{Place}
 use Rattle.path.specs.declared.Place.the-variants.{At}
 use Rattle.path.specs.declared.Site.the-variants.{Kernel}
 use Rattle.path.specs.Path.{stepIndex, pathAt}
-use Rattle.path.specs.Places.{placeOf, shiftOf, lastOf}
+use Rattle.path.specs.Places.{shiftOf, lastOf}
 use Rattle.path.specs.Sites.{siteOf}
 use Rattle.path.specs.Turns.{PlacedTo}
 use Rattle.path.proofs.Places.{place-reach}

@@ -10,7 +10,7 @@ use denote.Floats.{passes, is-true}
 use lib.Dec.{T, leb, ltb, ltb→lt, nltb→le, le→leb}
 use lib.IntN.{pos}
 use lib.Ieee.{Float, nan, inf, fin, Format, binary64, low, up, down, round, sum, add, neg, lt, eq, le, fits, ofInt, inFloat, inUnsigned, toUnsigned}
-use lib.Ieee.Back.{round-whole, unsigned-back, whole-unique}
+use lib.Ieee.Back.{round-whole, unsigned-back}
 use lib.Ieee.Exact.{HasValue}
 use lib.Ieee.Fits.{down-pos, add-fits, neg-fits, ofInt-fits}
 use lib.Ieee.Scale.{round-same}

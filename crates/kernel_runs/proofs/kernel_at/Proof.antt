@@ -1,6 +1,5 @@
 -- `kernel_runs::kernel_at` meets its contract. Assumes nothing.
 use borrow.Author.Needs.{needs}
-use denote.Ref.{now}
 use Rattle.kernel_runs.proofs.Runs.{kernel-on}
 use Rattle.kernel_runs.proofs.kernel_at.Statement.{statement}
 use Rattle.kernel_runs.proofs.kernel_at.Tie as tie

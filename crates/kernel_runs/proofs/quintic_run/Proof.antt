@@ -3,7 +3,6 @@ use Prim.Native.Nat.{_≤_, _-_}
 use native.Mathlib.Omega.{arith}
 use borrow.Author.Needs.{needs}
 use denote.Ref.{now}
-use lib.ListN.{length}
 use Rattle.asynchro_fast.specs.declared.PolynomialDegree.the-variants.{Quintic}
 use Rattle.kernel_runs.proofs.Runs.{Run, run-none, run-asks, run-next, run-done}
 use Rattle.kernel_runs.proofs.quintic_run.Statement.{statement}
