@@ -1,12 +1,11 @@
 -- A place that was found has its neighbours within reach. Assumes nothing.
 use mathlib.Core.Bool.{Bool, true, false, and-eq-true-iff}
-use mathlib.Core.Path.{_≡_, refl, ap, _∙_}
+use mathlib.Core.Path.{_≡_, refl}
 use Prim.Native.Nat.{ℕ, _+_, _-_, _*_, _/_, _≤_, _<_}
 use native.Mathlib.Omega.{arith}
 use borrow.Author.Tests.{leb-true}
 use lib.Dec.{leb}
 use lib.Ieee.{Float, nan, inf, fin, up, down}
-use Rattle.whole.specs.declared.Parts.{Parts}
 use Rattle.whole.specs.Rounded.{splitOf}
 use Rattle.asynchro_fast.specs.declared.PolynomialDegree.{PolynomialDegree}
 use Rattle.asynchro_fast.specs.Degrees.{pointsOf}
@@ -46,7 +45,3 @@ place-reach degree needed p x n h e = rw e (from-reach degree (shiftOf degree) (
 -- ---- a place taken apart
 pub reach-at : (degree : PolynomialDegree) (p : Place) (s : ℕ) (x : Float) (n : ℕ) → p ≡ At s x → Reaches degree p n → s + pointsOf degree ≤ n
 reach-at degree p s x n e h = rw e at h
-
--- floor and fraction come from `splitOf`
-pub place-split : (shift last : ℕ) (x : Float) (s : Parts) (p : Place) → s ≡ splitOf x → p ≡ placeFrom shift last (s .floor) (s .frac) → p ≡ placeOf shift last x
-place-split shift last x s p e h = h ∙ ap (λ (q : Parts). placeFrom shift last (q .floor) (q .frac)) e
