@@ -12,7 +12,8 @@ use Rattle.exact.specs.Whole.{Whole, Less, AtMost, Below}
 use Rattle.exact.specs.Exact.{exact, Number}
 use Rattle.path.specs.Path.{pathAt}
 use Rattle.kinds.proofs.Laws.{points-few}
-use Rattle.path.proofs.Inside.{path-fits, reach-inside}
+use Rattle.path.proofs.Path.{path-fits}
+use Rattle.path.proofs.Inside.{reach-inside}
 use Rattle.state.specs.declared.State.{State}
 use Rattle.state.specs.Record.{stepNow, isState}
 use Rattle.state.proofs.Valid.{valid}

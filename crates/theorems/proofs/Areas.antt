@@ -28,8 +28,7 @@ use Rattle.area.specs.Moves.{movedIn, loadedIn, movedAll}
 use Rattle.area.proofs.Parts.{Keeps, part-long, length-each, part-each}
 use Rattle.area.proofs.Moves.{movedIn-keeps, loadedIn-keeps}
 use Rattle.path.specs.Sites.{siteOf, reached}
-use Rattle.path.proofs.Path.{reach-each}
-use Rattle.path.proofs.Inside.{path-fits}
+use Rattle.path.proofs.Path.{path-fits, reach-each}
 use Rattle.frames.specs.Run.{kernelAt, valueAt}
 use Rattle.frames.proofs.Run.{ran-long}
 use Rattle.frames.proofs.Apart.{run-off, run-frame, run-beyond}

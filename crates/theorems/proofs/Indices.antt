@@ -29,7 +29,7 @@ use Rattle.path.specs.Path.{pathAt}
 use Rattle.path.specs.Places.{placeOf, isAt, shiftOf, lastOf}
 use Rattle.path.specs.Sites.{siteOf, reached, allReach}
 use Rattle.path.proofs.Bounds.{place-iff}
-use Rattle.path.proofs.Inside.{path-fits}
+use Rattle.path.proofs.Path.{path-fits}
 use Rattle.plan.specs.Plan.{incrementOf, reachHolds}
 use Rattle.plan.proofs.Planned.{increment-some}
 use Rattle.position.proofs.Tests.{holds, Double, index-of}
