@@ -5,22 +5,20 @@ use mathlib.Core.Path.{_≡_, sym, _∙_}
 use Prim.Native.Nat.{ℕ, _+_, _-_, _≤_}
 use native.Mathlib.Omega.{arith}
 use lib.Ieee.{Float}
-use lib.ListN.{length, take, drop, length-drop}
-use lib.Seq.{paste, length-paste, length-take-le, drop-drop, take-all}
+use lib.ListN.{length, take, drop}
+use lib.Seq.{paste, length-paste, drop-drop, take-all}
 use Rattle.asynchro_fast.specs.declared.PolynomialDegree.{PolynomialDegree}
 use Rattle.channel.specs.Mask.{whereOn}
+use Rattle.area.proofs.Parted.{lent-long}
 use Rattle.kernel_runs.specs.Runs.{runTo, FitTo, Runs}
 use Rattle.kernel_runs.proofs.Runs.{run-long}
 use Rattle.kernel_frames.specs.Turns.{someFrames}
 
 -- ---- one share, whose part from k on is lent
-lent-long : (o : List Float) (k n : ℕ) → k + n ≤ length o → length (take (k + n - k) (drop k o)) ≡ n
-lent-long o k n h = let j : k + n - k ≡ n = omega arith in rw j (length-take-le n (drop k o) (rw length-drop (omega arith)))
-
 pub fill-asks : (degree : PolynomialDegree) (work : List Float) (places : List ℕ) (fracs o : List Float) (k n : ℕ) → k + n ≤ length o → n ≤ length places → n ≤ length fracs → FitTo degree (length work) places n
     → Runs degree work places fracs (take (k + n - k) (drop k o))
 fill-asks degree work places fracs o k n h p q f =
-    let e = lent-long o k n h in
+    let e = lent-long k n o h in
     record { placed = rw e p; parted = rw e q; fit = rw e f }
 
 pub filled : (degree : PolynomialDegree) (work : List Float) (places : List ℕ) (fracs o ys : List Float) (k n : ℕ) (on : Bool) → on ≡ true → k + n ≤ length o
@@ -28,7 +26,7 @@ pub filled : (degree : PolynomialDegree) (work : List Float) (places : List ℕ)
     → take k o ++ (ys ++ drop (k + n - k) (drop k o)) ≡ whereOn on (paste o k (runTo degree work places fracs n) n) o
 filled degree work places fracs o ys k n on t h y =
     let r = runTo degree work places fracs n in
-    let is : ys ≡ r = rw (lent-long o k n h) at y in
+    let is : ys ≡ r = rw (lent-long k n o h) at y in
     let j : k + n - k ≡ n = omega arith in
     rw (t, is, j, drop-drop n k o, take-all n r (omega (arith, run-long degree work places fracs o n))) (sym (append-assoc (take k o) r (drop (k + n) o)))
 

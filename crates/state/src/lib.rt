@@ -133,6 +133,7 @@ pub fn steps_hold(s: State) -> bool
 }
 
 // `most`, here and below, is the record's maximum input: a caller works it out once for all that it asks.
+// Only our own crates call the functions that take it.
 pub fn maxima_hold(s: State, most: Size) -> bool
     requires { ⌜ most ≡ maxInputOf s ⌝ }
     ensures { λ b. ⌜ b ≡ maximaHold s ⌝ }
