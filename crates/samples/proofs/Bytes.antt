@@ -55,25 +55,25 @@ joins-fits n k h l = lt-of-lt-of-le h (pow-le-pow-right {n = 256} (lit< tt) {i =
 pub joins-done : (bs : List ℕ) (at n k : ℕ) → Joins bs at n k → k ≡ 8 → n ≡ littleAt bs at
 joins-done bs at n k j e = j .is at (omega arith) ∙ ap (littleFrom bs at) e
 
--- ---- x is d with the first k bytes of n from the place at on
-pub record Put (d : List ℕ) (at n : ℕ) (x : List ℕ) (k : ℕ) : Type 0 where
+-- ---- x is d with the first k of the w bytes of n from the place at on
+pub record Put (d : List ℕ) (at n w : ℕ) (x : List ℕ) (k : ℕ) : Type 0 where
   pub long : length x ≡ length d
-  pub is : x ≡ paste d at (eightOf n) k
+  pub is : x ≡ paste d at (bytesFrom n 0 w) k
 
-pub put-none : (d : List ℕ) (at n : ℕ) → Put d at n d 0
-put-none d at n = record { long = refl; is = paste-zero d at (eightOf n) }
+pub put-none : (d : List ℕ) (at n w : ℕ) → Put d at n w d 0
+put-none d at n w = record { long = refl; is = paste-zero d at (bytesFrom n 0 w) }
 
-pub put-next : (d : List ℕ) (at n : ℕ) (x : List ℕ) (k v : ℕ) → Put d at n x k → at + 8 ≤ length d → k < 8
-    → v ≡ n / 2 ^ (8 * k) % 256 → Put d at n (set x (at + k) v) (k + 1)
-put-next d at n x k v p h l e =
-    let b : n / 2 ^ (8 * k) % 256 ≡ getD (eightOf n) k 0 = sym (byte-at n 0 8 k l ∙ ap (λ (i : ℕ). n / 2 ^ (8 * i) % 256) (omega arith)) in
+pub put-next : (d : List ℕ) (at n w : ℕ) (x : List ℕ) (k v : ℕ) → Put d at n w x k → at + w ≤ length d → k < w
+    → v ≡ n / 2 ^ (8 * k) % 256 → Put d at n w (set x (at + k) v) (k + 1)
+put-next d at n w x k v p h l e =
+    let b : n / 2 ^ (8 * k) % 256 ≡ getD (bytesFrom n 0 w) k 0 = sym (byte-at n 0 w k l ∙ ap (λ (i : ℕ). n / 2 ^ (8 * i) % 256) (omega arith)) in
     record {
       long = simp length-set (p .long);
-      is = rw (p .is, e, b, add-one) (paste-suc d at (eightOf n) k 0 (omega arith) (omega (arith, length-bytes n 0 8)));
+      is = rw (p .is, e, b, add-one) (paste-suc d at (bytesFrom n 0 w) k 0 (omega arith) (omega (arith, length-bytes n 0 w)));
     }
 
-pub put-done : (d : List ℕ) (at n m : ℕ) (x : List ℕ) (k : ℕ) → Put d at n x k → k ≡ 8 → n ≡ m → x ≡ paste d at (eightOf m) 8
-put-done d at n m x k p e f = p .is ∙ ap (λ (j : ℕ). paste d at (eightOf n) j) e ∙ ap (λ (m : ℕ). paste d at (eightOf m) 8) f
+pub put-done : (d : List ℕ) (at n w : ℕ) (x : List ℕ) (k : ℕ) → Put d at n w x k → k ≡ w → x ≡ paste d at (bytesFrom n 0 w) w
+put-done d at n w x k p e = p .is ∙ ap (λ (j : ℕ). paste d at (bytesFrom n 0 w) j) e
 
 -- ---- what a reader may ask: a pattern that was put is read back
 unfoldable joined : List ℕ → ℕ

@@ -10,6 +10,7 @@ pub use counts::samples_in;
 pub use counts::takes;
 pub use frames::gather;
 pub use frames::spread;
+pub use little::put_little;
 pub use little::put_sample;
 pub use little::sample_at;
 pub use tones::tone_next;

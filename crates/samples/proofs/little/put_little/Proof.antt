@@ -1,11 +1,11 @@
--- `samples::little::put_sample` meets its contract: each turn puts one byte more. Assumes nothing.
+-- `samples::little::put_little` meets its contract: each turn puts one byte more. Assumes nothing.
 use mathlib.Core.Path.{refl}
 use Prim.Native.Nat.{_≤_, _-_}
 use native.Mathlib.Omega.{arith}
 use Rattle.samples.proofs.Bytes.{Put, put-none, put-next, put-done}
 use borrow.Author.Needs.{needs}
-use Rattle.samples.proofs.little.put_sample.Statement.{statement}
-use Rattle.samples.proofs.little.put_sample.Tie as tie
+use Rattle.samples.proofs.little.put_little.Statement.{statement}
+use Rattle.samples.proofs.little.put_little.Tie as tie
 
 abbrev Inv-loop : tie.InvT-loop
 Inv-loop bytes₀ at x n k₀ bytes k = (k ≤ 8) × Put bytes₀ at n bytes k
@@ -49,8 +49,8 @@ same-length c = c .before .loop .inv .1 .long
 returns : tie.Need-returns Inv-loop μ-loop
 returns c = put-done _ _ _ _ _ _ (c .before .loop .inv .1) (omega arith) (c .before .before .bits-of .ensures)
 
-pub put-sample-spec : {M : Type 1} → statement M
-put-sample-spec =
+pub put-little-spec : {M : Type 1} → statement M
+put-little-spec =
     tie.close
     (tie.spec
     Inv-loop

@@ -1,0 +1,2 @@
+-- The records of a pass's calls. Definitions only.
+pub mod Payloads

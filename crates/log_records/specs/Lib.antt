@@ -1,0 +1,2 @@
+-- A record of the pass log. Definitions only.
+pub mod Records

@@ -1,0 +1,2 @@
+-- The walk of salvage. Definitions only.
+pub mod Salvage
