@@ -61,8 +61,8 @@ putSaid kind payload room =
 
 -- the lent bytes then: the record at their front, and on a refusal what they were
 unfoldable pub placed : Said ℕ → List ℕ → List ℕ → List ℕ
-placed (given n) record out = record ++ drop n out
-placed (refused n vs) record out = out
+placed (given n) bytes out = bytes ++ drop n out
+placed (refused n vs) bytes out = out
 
 abbrev pub putArea : ℕ → List ℕ → List ℕ → List ℕ
 putArea kind payload out = placed (putSaid kind payload (length out)) (recordOf kind payload) out
