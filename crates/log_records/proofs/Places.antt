@@ -110,7 +110,7 @@ module _ (log : List ℕ) (at : ℕ) where
       let yes = hold-all (markAgrees bs) (kindAgrees bs) (lengthAgrees bs) (sumAgrees bs) h long g in
       ap (λ (i : ℕ). 7 + i) m ∙ sym (ap (λ (t : Bool). cond t (7 + twoAt bs 3) 0) yes)
 
--- ---- what a length tells: of 7 or more, that a record stands there and lies whole in the log; else that none does
+-- ---- what a length tells: above 0, that a record stands there and lies whole in the log; else that none does
 pub record Stands (bs : List ℕ) (n : ℕ) : Type 0 where
   pub yes : agrees bs ≡ true
   pub length-is : n ≡ 7 + twoAt bs 3
@@ -129,7 +129,7 @@ stands bs h =
     let b = both (leb (twoAt bs 3) 64) (leb (7 + twoAt bs 3) (length bs)) (agrees-length bs h) in
     record { yes = h; length-is = refl; short = leb-true (twoAt bs 3) 64 (b .0); whole = leb-true (7 + twoAt bs 3) (length bs) (b .1) }
 
-pub of-length : (bs : List ℕ) (n : ℕ) → n ≡ recordLength bs → 7 ≤ n → Stands bs n
+pub of-length : (bs : List ℕ) (n : ℕ) → n ≡ recordLength bs → 0 < n → Stands bs n
 of-length bs n e h = go (agrees bs) refl
   where
     go : (t : Bool) → agrees bs ≡ t → Stands bs n
@@ -151,10 +151,10 @@ module _ (log : List ℕ) (at n : ℕ) (e : n ≡ recordLength (drop at log)) wh
   pub read-some : 7 ≤ n → Record (getD log (at + 2) 0) (at + 5) (n - 7) (at + n) ≡ readAt log at
   unfolding readAt
   read-some h =
-      let s = of-length (drop at log) n e h in
+      let s = of-length (drop at log) n e (omega arith) in
       let k : n ≡ 7 + twoAt log (at + 3) = s .length-is ∙ ap (λ (i : ℕ). 7 + i) (sym (two-drop log at 3)) in
       let l : n - 7 ≡ twoAt log (at + 3) = omega arith in
       rw (s .yes, l, k)
 
   pub read-room : 7 ≤ n → at + n ≤ length log
-  read-room h = omega (arith, of-length (drop at log) n e h .whole, length-drop at log)
+  read-room h = omega (arith, of-length (drop at log) n e (omega arith) .whole, length-drop at log)
