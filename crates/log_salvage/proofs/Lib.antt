@@ -1,2 +1,4 @@
--- What the proofs cite.
+-- What the proofs cite, and what is shown of salvage.
 pub mod Steps
+pub mod Walks
+pub mod Choice

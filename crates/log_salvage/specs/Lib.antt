@@ -1,2 +1,3 @@
--- The walk of salvage. Definitions only.
+-- The walk of salvage, and what is claimed of it. Definitions only.
 pub mod Salvage
+pub mod Claims
