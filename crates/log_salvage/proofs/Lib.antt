@@ -2,3 +2,4 @@
 pub mod Steps
 pub mod Walks
 pub mod Choice
+pub mod Copies
