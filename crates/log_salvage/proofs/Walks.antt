@@ -1,5 +1,5 @@
 -- The listing is a walk over the whole log, and the only one. Assumes nothing.
-use mathlib.Core.Bool.{Bool, true, false, cond, true≢false}
+use mathlib.Core.Bool.{Bool, true, false, cond, not, _&&_, _||_, true≢false, or-false}
 use mathlib.Core.List.{List, [], _∷_, _++_}
 use mathlib.Core.Logic.{_⊎_, inl, inr}
 use mathlib.Core.Path.{_≡_, refl, sym, ap, _∙_, subst}
@@ -18,56 +18,71 @@ use Rattle.log_salvage.specs.Salvage.{stopsAt, skips, stretchAt, endOf, 
 use Rattle.log_salvage.specs.Claims.{IsKept, IsSkipped, Walk}
 use Rattle.log_salvage.proofs.Steps.{skips-stop, skips-pass, skips-end, is-kept, is-skipped, is-end}
 
--- ---- what is skipped: no record begins there, and behind it stands one or the end
-none-first : (bs : List ℕ) → 0 < skips true bs → agrees bs ≡ false
-none-first bs h = go (agrees bs) refl
+-- ---- what is skipped: the walk stops at none of these bytes
+neither : (a b : Bool) → (a || b) ≡ false → (a ≡ false) × (b ≡ false)
+neither true b e = absurd (true≢false e)
+neither false b e = (refl, e)
+
+pub no-record : (last : Bool) (bs : List ℕ) → stopsAt last bs ≡ false → agrees bs ≡ false
+no-record last bs e = neither (agrees bs) (not last && ltb (length bs) 71) e .0
+
+-- and where the log goes on, a record's bytes were all there
+pub all-there : (bs : List ℕ) → stopsAt false bs ≡ false → 71 ≤ length bs
+all-there bs e = ltb-false (length bs) 71 (neither (agrees bs) (not false && ltb (length bs) 71) e .1)
+
+stops-first : (last : Bool) (bs : List ℕ) → 0 < skips last bs → stopsAt last bs ≡ false
+stops-first last bs h = go (stopsAt last bs) refl
   where
-    go : (t : Bool) → agrees bs ≡ t → t ≡ false
-    go true y = absurd (let z = skips-stop true bs (rw y) in omega arith)
+    go : (t : Bool) → stopsAt last bs ≡ t → t ≡ false
+    go true y = absurd (let z = skips-stop last bs y in omega arith)
     go false y = refl
 
 -- one byte on
-shorter : (log : List ℕ) (at : ℕ) → 0 < skips true (drop at log) → (at < length log) × (skips true (drop at log) ≡ suc (skips true (drop (suc at) log)))
-shorter log at h = go (ltb at (length log)) refl
+shorter : (last : Bool) (log : List ℕ) (at : ℕ) → 0 < skips last (drop at log) → (at < length log) × (skips last (drop at log) ≡ suc (skips last (drop (suc at) log)))
+shorter last log at h = go (ltb at (length log)) refl
   where
-    go : (t : Bool) → ltb at (length log) ≡ t → (at < length log) × (skips true (drop at log) ≡ suc (skips true (drop (suc at) log)))
-    go true e = (ltb-true at (length log) e, skips-pass true log at (ltb-true at (length log) e) (rw (none-first (drop at log) h)))
-    go false e = absurd (let z = skips-end true log at (ltb-false at (length log) e) in omega arith)
+    go : (t : Bool) → ltb at (length log) ≡ t → (at < length log) × (skips last (drop at log) ≡ suc (skips last (drop (suc at) log)))
+    go true e = (ltb-true at (length log) e, skips-pass last log at (ltb-true at (length log) e) (stops-first last (drop at log) h))
+    go false e = absurd (let z = skips-end last log at (ltb-false at (length log) e) in omega arith)
 
 -- k bytes are skipped from `at` on
-record Passes (log : List ℕ) (at k : ℕ) : Type 0 where
-  none : (i : ℕ) → i < k → agrees (drop (at + i) log) ≡ false
-  whole : at ≤ length log → at + k ≤ length log
-  stops : at + k < length log → agrees (drop (at + k) log) ≡ true
+pub record Passes (last : Bool) (log : List ℕ) (at k : ℕ) : Type 0 where
+  pub none : (i : ℕ) → i < k → stopsAt last (drop (at + i) log) ≡ false
+  pub whole : at ≤ length log → at + k ≤ length log
+  pub stops : at + k < length log → stopsAt last (drop (at + k) log) ≡ true
 
-stops-here : (log : List ℕ) (at : ℕ) → skips true (drop at log) ≡ 0 → at < length log → agrees (drop at log) ≡ true
-stops-here log at e l = go (agrees (drop at log)) refl
+stops-here : (last : Bool) (log : List ℕ) (at : ℕ) → skips last (drop at log) ≡ 0 → at < length log → stopsAt last (drop at log) ≡ true
+stops-here last log at e l = go (stopsAt last (drop at log)) refl
   where
-    go : (t : Bool) → agrees (drop at log) ≡ t → t ≡ true
+    go : (t : Bool) → stopsAt last (drop at log) ≡ t → t ≡ true
     go true y = refl
-    go false y = absurd (let z = skips-pass true log at l (rw y) in omega arith)
+    go false y = absurd (let z = skips-pass last log at l y in omega arith)
 
-passes : (k : ℕ) (log : List ℕ) (at : ℕ) → skips true (drop at log) ≡ k → Passes log at k
-passes zero log at e = record {
+pub passes : (last : Bool) (k : ℕ) (log : List ℕ) (at : ℕ) → skips last (drop at log) ≡ k → Passes last log at k
+passes last zero log at e = record {
   none = λ i l. absurd (omega arith);
   whole = λ l. omega arith;
-  stops = λ l. ap (λ (i : ℕ). agrees (drop i log)) (add-zero at) ∙ stops-here log at e (omega arith);
+  stops = λ l. ap (λ (i : ℕ). stopsAt last (drop i log)) (add-zero at) ∙ stops-here last log at e (omega arith);
 }
-passes (suc k) log at e =
-    let s = shorter log at (omega arith) in
-    let p = passes k log (suc at) (omega (arith, s .1)) in
+passes last (suc k) log at e =
+    let s = shorter last log at (omega arith) in
+    let p = passes last k log (suc at) (omega (arith, s .1)) in
     let on : (i : ℕ) → at + suc i ≡ suc at + i = λ i. omega arith in
     record {
       none = first s p;
       whole = λ l. omega (arith, p .whole (s .0));
-      stops = λ l. ap (λ (i : ℕ). agrees (drop i log)) (on k) ∙ p .stops (omega arith);
+      stops = λ l. ap (λ (i : ℕ). stopsAt last (drop i log)) (on k) ∙ p .stops (omega arith);
     }
   where
-    first : (at < length log) × (skips true (drop at log) ≡ suc (skips true (drop (suc at) log))) → Passes log (suc at) k → (i : ℕ) → i < suc k → agrees (drop (at + i) log) ≡ false
-    first s p zero l = ap (λ (i : ℕ). agrees (drop i log)) (add-zero at) ∙ none-first (drop at log) (omega arith)
+    first : (at < length log) × (skips last (drop at log) ≡ suc (skips last (drop (suc at) log))) → Passes last log (suc at) k → (i : ℕ) → i < suc k → stopsAt last (drop (at + i) log) ≡ false
+    first s p zero l = ap (λ (i : ℕ). stopsAt last (drop i log)) (add-zero at) ∙ stops-first last (drop at log) (omega arith)
     first s p (suc i) l =
         let on : at + suc i ≡ suc at + i = omega arith in
-        ap (λ (j : ℕ). agrees (drop j log)) on ∙ p .none i (omega arith)
+        ap (λ (j : ℕ). stopsAt last (drop j log)) on ∙ p .none i (omega arith)
+
+-- at the log's end the walk stops before a record alone
+stops-record : (bs : List ℕ) → stopsAt true bs ≡ true → agrees bs ≡ true
+stops-record bs e = sym (or-false (agrees bs)) ∙ e
 
 -- ---- the first stretch, and the rest
 pub kept-length : (bs : List ℕ) → agrees bs ≡ true → recordLength bs ≡ 7 + twoAt bs 3
@@ -103,16 +118,16 @@ module _ (f : ℕ) (log : List ℕ) (at : ℕ) (l : at ≤ length log) (h : leng
   at-end y e = go (ltb at (length log)) refl
     where
       go : (t : Bool) → ltb at (length log) ≡ t → at ≡ length log
-      go true z = absurd (true≢false (sym (stops-here log at e (ltb-true at (length log) z)) ∙ y))
+      go true z = absurd (true≢false (sym (stops-record (drop at log) (stops-here true log at e (ltb-true at (length log) z))) ∙ y))
       go false z = omega (arith, ltb-false at (length log) z)
 
   walk-skipped : (k : ℕ) → agrees (drop at log) ≡ false → skips true (drop at log) ≡ k → Walk log at (stretchesFrom (suc f) log at)
   unfolding Walk
   walk-skipped zero y e = subst (Walk log at) (first-none f log at y e) (at-end y e)
   walk-skipped (suc k) y e =
-      let p = passes (suc k) log at e in
+      let p = passes true (suc k) log at e in
       subst (Walk log at) (first-skipped f log at (suc k) y e (omega arith))
-      (refl, (record { some = omega arith; none = p .none; whole = p .whole l; stops = p .stops }, rest (at + suc k) (p .whole l) (omega arith)))
+      (refl, (record { some = omega arith; none = λ i m. no-record true (drop (at + i) log) (p .none i m); whole = p .whole l; stops = λ m. stops-record (drop (at + suc k) log) (p .stops m) }, rest (at + suc k) (p .whole l) (omega arith)))
 
   walk-kept : agrees (drop at log) ≡ true → Walk log at (stretchesFrom (suc f) log at)
   unfolding Walk
