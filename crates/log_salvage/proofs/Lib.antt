@@ -3,3 +3,4 @@ pub mod Steps
 pub mod Walks
 pub mod Choice
 pub mod Copies
+pub mod Parts
