@@ -43,7 +43,7 @@ module _ (m : ℕ) (bs cs : List ℕ) (e : take m bs ≡ take m cs) (b : m ≤ l
       let n = twoAt bs 3 in
       ap (λ (i : ℕ). eqb i (sumOf (take (3 + n) (drop 2 bs)))) (same-two m bs cs e (5 + n) (omega arith))
       ∙ ap (λ (q : List ℕ). eqb (twoAt cs (5 + n)) (sumOf q))
-        (behind-two bs (3 + n) (omega arith) ∙ ap (drop 2) (same-front m bs cs e (2 + (3 + n)) (omega arith)) ∙ sym (behind-two cs (3 + n) (omega arith)))
+      (behind-two bs (3 + n) (omega arith) ∙ ap (drop 2) (same-front m bs cs e (2 + (3 + n)) (omega arith)) ∙ sym (behind-two cs (3 + n) (omega arith)))
       ∙ ap (λ (i : ℕ). eqb (twoAt cs (5 + i)) (sumOf (take (3 + i) (drop 2 cs)))) same-length
 
   pub same-agrees : (twoAt bs 3 ≤ 64 → 7 + twoAt bs 3 ≤ m) → agrees bs ≡ agrees cs

@@ -13,6 +13,7 @@ use Rattle.error.proofs.Ladder.{both, join}
 use Rattle.log_records.specs.Records.{twoOf, twoAt, isKind, total, bodyOf, sumOf, recordOf, markAgrees, kindAgrees, lengthAgrees, sumAgrees, agrees, recordLength, readAt}
 use Rattle.log_records.specs.declared.Read.the-variants.{Record}
 use Rattle.log_records.proofs.Places.{Stands, stands, read-some}
+use Rattle.log_records.proofs.Written.{kind-most}
 use Rattle.log_records.proofs.Local.{more-agrees}
 
 two-back : (n : ℕ) → n < 65536 → n % 256 + 256 * (n / 256 % 256) ≡ n
@@ -44,7 +45,7 @@ module _ (kind : ℕ) (payload : List ℕ) (k : isKind kind ≡ true) (h : lengt
       let first : getD r (5 + n) 0 ≡ s % 256 = getD-append-add head (payload ++ twoOf s) n 0 ∙ getD-append-seam payload (s % 256) (s / 256 % 256 ∷ []) 0 in
       let on : 5 + n + 1 ≡ 5 + (n + 1) = omega arith in
       let second : getD r (5 + n + 1) 0 ≡ s / 256 % 256 =
-          ap (λ (i : ℕ). getD r i 0) on ∙ getD-append-add head (payload ++ twoOf s) (n + 1) 0 ∙ getD-append-add payload (twoOf s) 1 0 in
+      ap (λ (i : ℕ). getD r i 0) on ∙ getD-append-add head (payload ++ twoOf s) (n + 1) 0 ∙ getD-append-add payload (twoOf s) 1 0 in
       omega (arith, two-back s (omega arith))
 
   body-back : take (3 + n) (drop 2 r) ≡ bodyOf kind payload
@@ -64,8 +65,8 @@ module _ (kind : ℕ) (payload : List ℕ) (k : isKind kind ≡ true) (h : lengt
   record-agrees =
       let len : lengthAgrees r ≡ true = rw (length-back, le-leb n 64 h, record-length, le-leb (7 + n) (7 + n) (omega arith)) in
       let sum : sumAgrees r ≡ true =
-          ap (λ (i : ℕ). eqb (twoAt r (5 + i)) (sumOf (take (3 + i) (drop 2 r)))) length-back
-          ∙ eq-eqb (twoAt r (5 + n)) (sumOf (take (3 + n) (drop 2 r))) (sum-back ∙ ap sumOf (sym body-back)) in
+      ap (λ (i : ℕ). eqb (twoAt r (5 + i)) (sumOf (take (3 + i) (drop 2 r)))) length-back
+      ∙ eq-eqb (twoAt r (5 + n)) (sumOf (take (3 + n) (drop 2 r))) (sum-back ∙ ap sumOf (sym body-back)) in
       join marks-back (join (ap isKind kind-back ∙ k) (join len sum))
 
   payload-back : take n (drop 5 r) ≡ payload
@@ -83,10 +84,11 @@ module _ (kind : ℕ) (payload : List ℕ) (k : isKind kind ≡ true) (h : lengt
       let y = more-agrees r rest record-agrees in
       let len : twoAt (drop at log) 3 ≡ n = ap (λ (q : List ℕ). twoAt q 3) here ∙ y .1 ∙ length-back in
       let is : 7 + n ≡ recordLength (drop at log) = sym (ap (λ (t : Bool). cond t (7 + twoAt (drop at log) 3) 0) (ap agrees here ∙ y .0) ∙ ap (λ (i : ℕ). 7 + i) len) in
-      let kind-there : getD log (at + 2) 0 ≡ kind = sym (getD-drop at log 2 0) ∙ ap (λ (q : List ℕ). getD q 2 0) here ∙ List·getD-append r rest 0 2 (omega (arith, record-length)) ∙ kind-back in
-      (sym (read-some log at (7 + n) is (omega arith)) ∙ rw (kind-there, (let z : 7 + n - 7 ≡ n = omega arith in z)),
-      ap (take n) (sym (drop-drop 5 at log) ∙ ap (drop 5) here ∙ drop-append-le 5 r rest (omega (arith, record-length)))
-      ∙ take-append-le n (drop 5 r) rest (omega (arith, record-length, length-drop 5 r)) ∙ payload-back)
+      let kind-there : getD log (at + 2) 0 ≡ kind = sym (getD-drop at log 2 0) ∙ ap (λ (q : List ℕ). getD q 2 0) here ∙ List·getD-append r rest 0 2 (omega (arith, record-length)) ∙ kind-back in (
+        sym (read-some log at (7 + n) is (omega arith)) ∙ rw (kind-there, (let z : 7 + n - 7 ≡ n = omega arith in z)),
+        ap (take n) (sym (drop-drop 5 at log) ∙ ap (drop 5) here ∙ drop-append-le 5 r rest (omega (arith, record-length)))
+            ∙ take-append-le n (drop 5 r) rest (omega (arith, record-length, length-drop 5 r)) ∙ payload-back,
+      )
 
 -- the other way: bytes that agree are what the writer writes of that kind and payload
 module _ (bs : List ℕ) (y : agrees bs ≡ true) (small : (i : ℕ) → getD bs i 0 < 256) where
@@ -150,7 +152,7 @@ module _ (bs : List ℕ) (y : agrees bs ≡ true) (small : (i : ℕ) → getD bs
       let on : suc (5 + len) ≡ 5 + len + 1 = omega arith in
       let over : suc (5 + len + 1) ≡ 7 + len = omega arith in
       let second : drop (suc (5 + len)) bs ≡ getD bs (5 + len + 1) 0 ∷ drop (7 + len) bs =
-          ap (λ (i : ℕ). drop i bs) on ∙ at-front (5 + len + 1) (omega arith) ∙ ap (λ (i : ℕ). getD bs (5 + len + 1) 0 ∷ drop i bs) over in
+      ap (λ (i : ℕ). drop i bs) on ∙ at-front (5 + len + 1) (omega arith) ∙ ap (λ (i : ℕ). getD bs (5 + len + 1) 0 ∷ drop i bs) over in
       sym (take-append-drop len (drop 5 bs))
       ∙ ap (λ (q : List ℕ). held ++ q) (drop-drop len 5 bs ∙ at-front (5 + len) (omega arith) ∙ ap (λ (q : List ℕ). getD bs (5 + len) 0 ∷ q) second)
 
@@ -165,3 +167,18 @@ module _ (bs : List ℕ) (y : agrees bs ≡ true) (small : (i : ℕ) → getD bs
       ∙ ap (λ (t : List ℕ). 0xD7 ∷ 0x1A ∷ kind ∷ t ++ drop 5 bs) length-is
       ∙ ap (λ (q : List ℕ). 0xD7 ∷ 0x1A ∷ kind ∷ twoOf (length held) ++ q) (tail-is ∙ sym (append-assoc held (a ∷ b ∷ []) rest))
       ∙ ap (λ (t : List ℕ). 0xD7 ∷ 0x1A ∷ kind ∷ twoOf (length held) ++ (held ++ t ++ rest)) sum-is
+
+-- "modulo 65,536" is never seen: a record's sum is at most 16,388
+total-most : (xs : List ℕ) → ((i : ℕ) → getD xs i 0 < 256) → total xs ≤ 255 * length xs
+unfolding total
+total-most [] small = omega arith
+total-most (x ∷ xs) small =
+    let here : x < 256 = small 0 in
+    omega (arith, total-most xs (λ i. small (suc i)))
+
+pub sum-most : (kind : ℕ) (payload : List ℕ) → isKind kind ≡ true → length payload ≤ 64 → ((i : ℕ) → getD payload i 0 < 256) → total (bodyOf kind payload) ≤ 16388
+unfolding total
+sum-most kind payload k h small =
+    let low : length payload % 256 ≡ length payload = mod-eq-of-lt (omega arith) in
+    let high : length payload / 256 % 256 ≡ 0 = omega arith in
+    omega (arith, kind-most kind k, total-most payload small)

@@ -22,7 +22,7 @@ front-kept rs rest g =
     let n = length (joined rs) in
     let long = length-append (joined rs) rest in
     let behind : Walk log (0 + n) (stretchesFrom (length rest) log n) =
-        subst (λ (i : ℕ). Walk log i (stretchesFrom (length rest) log n)) (omega arith) (walks (length rest) log n (omega arith) (omega arith)) in
+    subst (λ (i : ℕ). Walk log i (stretchesFrom (length rest) log n)) (omega arith) (walks (length rest) log n (omega arith) (omega arith)) in
     walk-one log 0 (listing log) (keptAll 0 rs ++ stretchesFrom (length rest) log n) (listing-walks log) (all-kept log 0 rs rest (stretchesFrom (length rest) log n) g refl (omega arith) behind)
 
 -- ---- "a file of good records alone is copied to the bit", and nothing is skipped

@@ -4,3 +4,4 @@ pub mod Walks
 pub mod Choice
 pub mod Copies
 pub mod Parts
+pub mod Examples

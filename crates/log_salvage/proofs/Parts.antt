@@ -95,12 +95,14 @@ module _ (front part more : List ℕ) (last : Bool) (ends : last ≡ true → mo
   -- and at no byte that is skipped in the part does one of the log begin
   pub part-skipped : (at n : ℕ) → at ≤ length part → 0 < n → stretchAt part at last ≡ Skipped at n → (at + n ≤ length part) × NoneIn log (base + at) (base + (at + n))
   part-skipped at n h s e =
-      let p = passes last n part at (skipped-tells part at n last e s) in
-      (p .whole h, λ i a b.
-      let j : i ≡ base + (at + (i - (base + at))) = omega arith in
-      ap (λ (k : ℕ). agrees (drop k log)) j
-      ∙ ap agrees (there (at + (i - (base + at))) (omega (arith, p .whole h)))
-      ∙ settled (drop (at + (i - (base + at))) part) (p .none (i - (base + at)) (omega arith)))
+      let p = passes last n part at (skipped-tells part at n last e s) in (
+        p .whole h,
+        λ i a b.
+            let j : i ≡ base + (at + (i - (base + at))) = omega arith in
+            ap (λ (k : ℕ). agrees (drop k log)) j
+            ∙ ap agrees (there (at + (i - (base + at))) (omega (arith, p .whole h)))
+            ∙ settled (drop (at + (i - (base + at))) part) (p .none (i - (base + at)) (omega arith)),
+      )
 
 -- ---- what is told in all: a stretch skipped is told when the next record, or the end, is found
 pub pending-kept : (log : List ℕ) (s p n : ℕ) (l : List Stretch) → s ≤ p → NoneIn log s p → IsKept log p n → Walk log (p + n) l → Walk log s (pending s p (Kept p n ∷ l))
@@ -110,15 +112,18 @@ pending-kept log s p n l h none k w = go (ltb s p) refl
     go : (t : Bool) → ltb s p ≡ t → Walk log s (cond t (Skipped s (p - s) ∷ Kept p n ∷ l) (Kept p n ∷ l))
     go true e =
         let a = ltb-true s p e in
-        let on : s + (p - s) ≡ p = omega arith in
-        (refl,
-        (record {
-          some = omega arith;
-          none = λ i m. none (s + i) (omega arith) (omega arith);
-          whole = omega (arith, k .whole);
-          stops = λ m. ap (λ (i : ℕ). agrees (drop i log)) on ∙ k .stands;
-        },
-        subst (λ (i : ℕ). (p ≡ i) × (IsKept log i n × Walk log (i + n) l)) (sym on) (refl, (k, w))))
+        let on : s + (p - s) ≡ p = omega arith in (
+          refl,
+          (
+            record {
+              some = omega arith;
+              none = λ i m. none (s + i) (omega arith) (omega arith);
+              whole = omega (arith, k .whole);
+              stops = λ m. ap (λ (i : ℕ). agrees (drop i log)) on ∙ k .stands;
+            },
+            subst (λ (i : ℕ). (p ≡ i) × (IsKept log i n × Walk log (i + n) l)) (sym on) (refl, (k, w)),
+          ),
+        )
     go false e =
         let same : p ≡ s = omega (arith, ltb-false s p e) in
         subst (λ (i : ℕ). (p ≡ i) × (IsKept log i n × Walk log (i + n) l)) same (refl, (k, w))
