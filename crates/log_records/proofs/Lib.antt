@@ -1,6 +1,4 @@
--- What the proofs cite, and what is shown of records.
+-- What the proofs cite.
 pub mod Sums
 pub mod Places
 pub mod Written
-pub mod Local
-pub mod ReadBack

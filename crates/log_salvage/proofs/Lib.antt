@@ -1,7 +1,2 @@
--- What the proofs cite, and what is shown of salvage.
+-- What the proofs cite.
 pub mod Steps
-pub mod Walks
-pub mod Choice
-pub mod Copies
-pub mod Parts
-pub mod Examples

@@ -1,3 +1,2 @@
--- The walk of salvage, and what is claimed of it. Definitions only.
+-- The walk of salvage. Definitions only.
 pub mod Salvage
-pub mod Claims

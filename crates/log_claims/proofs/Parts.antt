@@ -10,13 +10,14 @@ use lib.ListN.{length, drop, length-append, length-drop}
 use lib.Seq.{drop-append-le, drop-append-add}
 use Rattle.log_records.specs.Records.{twoAt, agrees, recordLength}
 use Rattle.log_records.proofs.Places.{stands}
-use Rattle.log_records.proofs.Local.{judged, more-agrees}
+use Rattle.log_claims.proofs.Local.{judged, more-agrees}
 use Rattle.log_salvage.specs.declared.Stretch.{Stretch}
 use Rattle.log_salvage.specs.declared.Stretch.the-variants.{Skipped, Kept, End}
-use Rattle.log_salvage.specs.Salvage.{stopsAt, skips, stretchAt, listing}
-use Rattle.log_salvage.specs.Claims.{IsKept, IsSkipped, Walk, NoneIn, pending}
-use Rattle.log_salvage.proofs.Walks.{listing-walks, passes, no-record, all-there, kept-length}
-use Rattle.log_salvage.proofs.Choice.{walk-one}
+use Rattle.log_salvage.specs.Salvage.{stopsAt, skips, stretchAt}
+use Rattle.log_claims.specs.Listing.{listing}
+use Rattle.log_claims.specs.Claims.{IsKept, IsSkipped, Walk, NoneIn, pending}
+use Rattle.log_claims.proofs.Walks.{listing-walks, passes, no-record, all-there, kept-length}
+use Rattle.log_claims.proofs.Choice.{walk-one}
 
 -- ---- what a stretch of a part tells
 abbrev told : Stretch → Bool

@@ -12,11 +12,12 @@ use lib.ListN.{length, getD, take, drop, length-drop, drop-of-length-le}
 use lib.Seq.{drop-cons, drop-drop}
 use Rattle.log_records.specs.Records.{twoAt, agrees, recordLength}
 use Rattle.log_records.proofs.Places.{Stands, stands}
 use Rattle.log_salvage.specs.declared.Stretch.{Stretch}
 use Rattle.log_salvage.specs.declared.Stretch.the-variants.{Skipped, Kept, End}
-use Rattle.log_salvage.specs.Salvage.{stopsAt, skips, stretchAt, endOf, withRest, stretchesFrom, listing}
-use Rattle.log_salvage.specs.Claims.{IsKept, IsSkipped, Walk}
+use Rattle.log_salvage.specs.Salvage.{stopsAt, skips, stretchAt}
+use Rattle.log_claims.specs.Listing.{endOf, withRest, stretchesFrom, listing}
+use Rattle.log_claims.specs.Claims.{IsKept, IsSkipped, Walk}
 use Rattle.log_salvage.proofs.Steps.{skips-stop, skips-pass, skips-end, is-kept, is-skipped, is-end}
 
 -- ---- what is skipped: the walk stops at none of these bytes
 neither : (a b : Bool) → (a || b) ≡ false → (a ≡ false) × (b ≡ false)

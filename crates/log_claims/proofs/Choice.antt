@@ -11,12 +11,12 @@ use lib.ListN.{length, take, drop, length-append, length-drop}
 use lib.Seq.{take-at, drop-drop, drop-at, length-take-le, drop-append-seam}
 use Rattle.log_records.specs.Records.{twoAt, agrees, recordLength}
 use Rattle.log_records.proofs.Places.{stands}
-use Rattle.log_records.proofs.Local.{more-agrees, alone-agrees}
+use Rattle.log_claims.proofs.Local.{more-agrees, alone-agrees}
 use Rattle.log_salvage.specs.declared.Stretch.{Stretch}
 use Rattle.log_salvage.specs.declared.Stretch.the-variants.{Skipped, Kept, End}
-use Rattle.log_salvage.specs.Salvage.{stretchesFrom, listing, copyOf, salvaged}
-use Rattle.log_salvage.specs.Claims.{Listed, IsKept, IsSkipped, Walk, Good, AllGood, joined, keptAll, keptParts}
-use Rattle.log_salvage.proofs.Walks.{walks, listing-walks, kept-length}
+use Rattle.log_claims.specs.Listing.{stretchesFrom, listing, copyOf, salvaged}
+use Rattle.log_claims.specs.Claims.{Listed, IsKept, IsSkipped, Walk, Good, AllGood, joined, keptAll, keptParts}
+use Rattle.log_claims.proofs.Walks.{walks, listing-walks, kept-length}
 
 -- ---- two stretches that are the same
 abbrev startOf : Stretch → ℕ

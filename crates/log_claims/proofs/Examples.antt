@@ -3,8 +3,9 @@ use mathlib.Core.List.{List, [], _∷_, _++_}
 use mathlib.Core.Path.{_≡_, refl}
 use Prim.Native.Nat.{ℕ}
 use Rattle.log_records.specs.Records.{total, recordOf, agrees}
 use Rattle.log_salvage.specs.declared.Stretch.the-variants.{Skipped, Kept}
-use Rattle.log_salvage.specs.Salvage.{skips, stretchAt, endOf, withRest, stretchesFrom, listing}
+use Rattle.log_salvage.specs.Salvage.{skips, stretchAt}
+use Rattle.log_claims.specs.Listing.{endOf, withRest, stretchesFrom, listing}
 
 -- "For 3 stray bytes followed by one good 9-byte record the whole listing is two lines"
 stray-and-good : listing (0 ∷ 1 ∷ 2 ∷ recordOf 3 (5 ∷ 6 ∷ [])) ≡ Skipped 0 3 ∷ Kept 3 9 ∷ []

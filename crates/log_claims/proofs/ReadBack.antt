@@ -10,11 +10,11 @@ use lib.Dec.{eqb, leb, lit≤, lit<}
 use lib.ListN.{length, getD, take, drop, length-append, length-drop, take-append-drop, List·getD-append}
 use lib.Seq.{take-at, getD-append-add, getD-append-seam, take-append-seam, drop-append-seam, take-append-le, drop-append-le, drop-drop, getD-drop, drop-cons, length-take-le, take-add, take-length}
 use Rattle.error.proofs.Ladder.{both, join}
 use Rattle.log_records.specs.Records.{twoOf, twoAt, isKind, total, bodyOf, sumOf, recordOf, markAgrees, kindAgrees, lengthAgrees, sumAgrees, agrees, recordLength, readAt}
 use Rattle.log_records.specs.declared.Read.the-variants.{Record}
 use Rattle.log_records.proofs.Places.{Stands, stands, read-some}
 use Rattle.log_records.proofs.Written.{kind-most}
-use Rattle.log_records.proofs.Local.{more-agrees}
+use Rattle.log_claims.proofs.Local.{more-agrees}
 
 two-back : (n : ℕ) → n < 65536 → n % 256 + 256 * (n / 256 % 256) ≡ n
 two-back n h = omega arith

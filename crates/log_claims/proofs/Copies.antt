@@ -7,13 +7,13 @@ use lib.ListN.{length, take, drop, length-append}
 use lib.Seq.{take-append-seam, drop-append-seam, drop-drop, length-take-le}
 use Rattle.log_records.specs.Records.{twoAt, agrees, recordLength}
 use Rattle.log_records.proofs.Places.{stands}
-use Rattle.log_records.proofs.Local.{alone-agrees}
+use Rattle.log_claims.proofs.Local.{alone-agrees}
 use Rattle.log_salvage.specs.declared.Stretch.{Stretch}
 use Rattle.log_salvage.specs.declared.Stretch.the-variants.{Skipped, Kept, End}
-use Rattle.log_salvage.specs.Salvage.{stretchesFrom, listing, copyOf, salvaged}
-use Rattle.log_salvage.specs.Claims.{IsKept, Walk, Good, AllGood, joined, keptAll, keptParts}
-use Rattle.log_salvage.proofs.Walks.{walks, listing-walks, kept-length}
-use Rattle.log_salvage.proofs.Choice.{walk-one, all-kept}
+use Rattle.log_claims.specs.Listing.{stretchesFrom, listing, copyOf, salvaged}
+use Rattle.log_claims.specs.Claims.{IsKept, Walk, Good, AllGood, joined, keptAll, keptParts}
+use Rattle.log_claims.proofs.Walks.{walks, listing-walks, kept-length}
+use Rattle.log_claims.proofs.Choice.{walk-one, all-kept}
 
 -- good records at the front are all kept, whatever stands behind them
 pub front-kept : (rs : List (List ℕ)) (rest : List ℕ) → AllGood rs → listing (joined rs ++ rest) ≡ keptAll 0 rs ++ stretchesFrom (length rest) (joined rs ++ rest) (length (joined rs))
