@@ -2,6 +2,7 @@
 use crate::pass::Pass;
 use crate::pass::Plan;
 use crate::pass::Run;
+use crate::pass::not_recorded;
 use crate::pass::refused;
 use crate::pass::run_of;
 use crate::pass::stop_told;
@@ -53,11 +54,20 @@ pub fn next_line(fd: i32, bytes: &mut [u8], plan: Plan) -> Plan {
     }
 }
 
-fn settled(p: Pass, files: Files, outcome: Outcome) -> Run {
+// The record of an accepted setting, 1 or 2 as in `changed`.
+fn recorded(p: Pass, files: Files, kind: u64, ratio: u64) -> Pass {
+    let counts = p.counts;
+    if pass_log::write_setting(files.passlog, kind, ratio) {
+        return p;
+    }
+    not_recorded(p, files, counts.blocks)
+}
+
+fn settled(p: Pass, files: Files, kind: u64, ratio: u64, outcome: Outcome) -> Run {
     let state = outcome.state;
     let answer = outcome.answer;
     match answer {
-        Done::Accepted => run_of(state, p),
+        Done::Accepted => run_of(state, recorded(p, files, kind, ratio)),
         Done::Refused(r) => {
             let form = b"the ratio change before block # was refused with number #\n";
             run_of(state, refused(p, files, form, r))
@@ -85,6 +95,8 @@ fn changed(run: Run, files: Files, kind: u64, value: u64) -> Run {
     settled(
         p,
         files,
+        kind,
+        value,
         asynchro::set_resample_ratio(s, text::of_bits(value), kind == 2),
     )
 }

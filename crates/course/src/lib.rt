@@ -17,6 +17,7 @@ pub use pass::Plan;
 pub use pass::Run;
 pub use pass::finished;
 pub use pass::is_going;
+pub use pass::not_recorded;
 pub use pass::refused;
 pub use pass::run_of;
 pub use pass::stop_told;

@@ -110,3 +110,14 @@ pub fn stop_told(p: Pass, files: Files, form: &[u8], numbers: &[u64]) -> Pass {
     tell(files, form, numbers);
     stopped(p)
 }
+
+// A record of the block, or of a setting before it, could not be written to the pass log.
+pub fn not_recorded(p: Pass, files: Files, block: u64) -> Pass {
+    os::fail(b"resample: writing the pass log");
+    stop_told(
+        p,
+        files,
+        b"the pass log has the records of all blocks before block #; a part of a record may stand at its end\n",
+        &[block],
+    )
+}

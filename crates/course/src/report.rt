@@ -216,7 +216,8 @@ pub fn ended_well(p: Pass, o: Options, files: Files, changes: &[u64]) -> bool {
     let totals = tell_totals(p, files);
     let output = closed(files.output, b"resample: closing the output");
     let log = closed(files.log, b"resample: closing the log");
-    let good = p.good & reached & cut & totals & output & log;
+    let passlog = closed(files.passlog, b"resample: closing the pass log");
+    let good = p.good & reached & cut & totals & output & log & passlog;
     tell_end(p, good);
     good
 }

@@ -22,6 +22,12 @@ const IS_OUTPUT: usize = 7;
 
 const IS_TABLE: usize = 8;
 
+const PASSLOG_NAMES: usize = 9;
+
+const IS_LOG: usize = 10;
+
+const IS_STATUS: usize = 11;
+
 // Whether both are one file that writing changes: no pipe and no socket, which may be read and written.
 fn is_same(a: Facts, b: Facts) -> bool {
     let kept = (a.kind == libc::S_IFREG) | (a.kind == libc::S_IFBLK);
@@ -30,7 +36,7 @@ fn is_same(a: Facts, b: Facts) -> bool {
 
 fn say_role(k: usize) {
     say_nth(
-        b"--out names,standard output is,--log names,the log's stream is, the input, the plan, the output, the table,",
+        b"--out names,standard output is,--log names,the log's stream is, the input, the plan, the output, the table,--passlog names, the log, the status file,",
         44,
         k,
     );
@@ -64,7 +70,32 @@ pub fn log_stream(o: Options) -> i32 {
     }
 }
 
-// Whether the output or the log is another file of the pass, before either is opened; it is told.
+// Whether the pass log is the output, the log or the file for the status; it is told.
+pub fn is_passlog_taken(o: Options, passlog: Facts) -> bool {
+    let output = facts_in(o.output, libc::STDOUT_FILENO);
+    let log = facts_in(o.log, log_stream(o));
+    let status = facts_in(o.status, -1);
+    let a = is_told(
+        file_facts::same_file(passlog, output),
+        PASSLOG_NAMES,
+        IS_OUTPUT,
+    );
+    let b = is_told(file_facts::same_file(passlog, log), PASSLOG_NAMES, IS_LOG);
+    let c = is_told(is_same(passlog, status), PASSLOG_NAMES, IS_STATUS);
+    a | b | c
+}
+
+// Whether the pass log is another file of the pass.
+fn has_passlog_clash(o: Options, input: Facts, plan: Facts, table: Facts) -> bool {
+    let passlog = facts_in(o.passlog, -1);
+    let a = is_told(is_same(passlog, input), PASSLOG_NAMES, IS_INPUT);
+    let b = is_told(is_same(passlog, plan), PASSLOG_NAMES, IS_PLAN);
+    let c = is_told(is_same(passlog, table), PASSLOG_NAMES, IS_TABLE);
+    let d = is_passlog_taken(o, passlog);
+    a | b | c | d
+}
+
+// Whether the output, the log or the pass log is another file of the pass, before any is opened; it is told.
 pub fn has_clash(o: Options, input: Facts, plan: Facts, table: Facts) -> bool {
     let output = facts_in(o.output, libc::STDOUT_FILENO);
     let log = facts_in(o.log, log_stream(o));
@@ -77,7 +108,8 @@ pub fn has_clash(o: Options, input: Facts, plan: Facts, table: Facts) -> bool {
     let e = is_told(file_facts::same_file(log, output), by_log, IS_OUTPUT);
     let f = is_told(is_same(output, table), by_output, IS_TABLE);
     let g = is_told(is_same(log, table), by_log, IS_TABLE);
-    a | b | c | d | e | f | g
+    let h = has_passlog_clash(o, input, plan, table);
+    a | b | c | d | e | f | g | h
 }
 
 // Whether the log, which is open, is the output: two names of a file that was not there before.
@@ -98,5 +130,6 @@ pub fn is_status_taken(o: Options) -> bool {
     let c = is_same(status, facts_in(o.output, libc::STDOUT_FILENO));
     let d = is_same(status, facts_in(o.log, log_stream(o)));
     let e = is_same(status, facts_in(o.table, -1));
-    a | b | c | d | e
+    let f = is_same(status, facts_in(o.passlog, -1));
+    a | b | c | d | e | f
 }

@@ -1,18 +1,22 @@
 // The files that the words name, opened in order.
 use crate::clashes::has_clash;
 use crate::clashes::is_output;
+use crate::clashes::is_passlog_taken;
 use crate::clashes::log_stream;
 use crate::named::Act;
+use crate::named::Opened;
 use crate::named::act_at;
 use crate::options::Options;
+use crate::options::Place;
 use file_facts::Facts;
 
-// Where samples come from and go to, where the log goes, the plan and the table; -1 is none. `input_bytes` is
-// the input's size where it is a regular file, else 0. `good` says that each is open.
+// Where samples come from and go to, where the log and the pass log go, the plan and the table; -1 is none.
+// `input_bytes` is the input's size where it is a regular file, else 0. `good` says that each is open.
 pub struct Files {
     pub input: i32,
     pub output: i32,
     pub log: i32,
+    pub passlog: i32,
     pub plan: i32,
     pub table: i32,
     pub log_file: bool,
@@ -47,6 +51,7 @@ fn files_of(input: i32, plan: i32, table: i32, input_bytes: u64, good: bool) -> 
         input,
         output: -1,
         log: libc::STDERR_FILENO,
+        passlog: -1,
         plan,
         table,
         log_file: false,
@@ -67,8 +72,34 @@ fn bytes_in(input: Facts) -> u64 {
     0
 }
 
-// Opens the log. Where it is a second name of the output, as far as the system tells, that is told; one
-// that was not there before is removed again.
+// A file that is not to be written after all: one that was not there before is removed again.
+fn given_up(opened: Opened, place: Place) -> Files {
+    if opened.made {
+        act_at(Act::Remove, place, -1);
+    }
+    no_files(false)
+}
+
+// Opens the pass log, where one is named. It is opened before the log, so that a second name of it, as far as
+// the system tells, is found whichever of the two it is; that is told.
+pub fn open_passlog(o: Options, f: Files) -> Files {
+    let place = o.passlog;
+    if place.at == 0 {
+        return f;
+    }
+    let passlog = act_at(Act::Write, place, -1);
+    if passlog.fd < 0 {
+        return no_files(false);
+    }
+    if is_passlog_taken(o, file_facts::facts_of(passlog.fd)) {
+        return given_up(passlog, place);
+    }
+    let mut g = f;
+    g.passlog = passlog.fd;
+    g
+}
+
+// Opens the log. Where it is a second name of the output, as far as the system tells, that is told.
 pub fn open_log(o: Options, f: Files) -> Files {
     let place = o.log;
     let log = act_at(Act::Write, place, log_stream(o));
@@ -76,15 +107,13 @@ pub fn open_log(o: Options, f: Files) -> Files {
         return no_files(false);
     }
     if is_output(o, log.fd) {
-        if log.made {
-            act_at(Act::Remove, place, -1);
-        }
-        return no_files(false);
+        return given_up(log, place);
     }
     Files {
         input: f.input,
         output: -1,
         log: log.fd,
+        passlog: f.passlog,
         plan: f.plan,
         table: f.table,
         log_file: log.fd != libc::STDERR_FILENO,
@@ -137,6 +166,7 @@ pub fn open_output(o: Options, f: Files) -> Files {
         input: f.input,
         output: output.fd,
         log: f.log,
+        passlog: f.passlog,
         plan: f.plan,
         table: f.table,
         log_file: f.log_file,

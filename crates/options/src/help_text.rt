@@ -52,6 +52,11 @@ channel. A word with one value can be written --name=value too.
                  order: at B R, ramp B R or mask B M
   --log FILE     the log goes there, and not to standard error; - is standard
                  output, with --out
+  --passlog FILE a record of each accepted call goes there, written before the
+                 next call: the start index, each ratio that was set, and of a
+                 block its sizes, step, increment and the index it leaves. They
+                 are bytes, and each has a sum: ./hazivotra salvage checks such
+                 a log, and rescues the records that a bad disk left whole
   --raw          the blocks as they come, whole, with delay and padding
   --force        take an input that begins as a WAV file does (RIFF) as samples
   --status FILE  the exit status goes there, as a digit and a line feed
@@ -72,8 +77,8 @@ the step at its start and its increment a frame, the index it leaves, all output
 frames N and blocks B so far. An x and 16 hex digits are a float's bits. A sinc's
 table has a line, with the sum that ./hazivotra table prints.
 
-An output or log that is the input, the plan, the table or the other one is
-refused before it is opened. A change that no block reached is told at the end.
+An output, log or pass log that is another file of the pass is refused before
+it is opened. A change that no block reached is told at the end.
 
   resample --tones 48000 --out tones.f64
   resample --rates 48000 44100 --channels 2 --in tones.f64 --out new.f64

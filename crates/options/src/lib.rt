@@ -19,6 +19,7 @@ pub use files::no_files;
 pub use files::open_inputs;
 pub use files::open_log;
 pub use files::open_output;
+pub use files::open_passlog;
 pub use help_text::help;
 pub use help_text::write_version;
 pub use messages::say;

@@ -35,25 +35,27 @@ pub const PLAN: usize = 14;
 
 pub const TABLE: usize = 15;
 
-pub const STATUS: usize = 16;
+pub const PASSLOG: usize = 16;
 
-pub const RATES: usize = 17;
+pub const STATUS: usize = 17;
 
-pub const SINC: usize = 18;
+pub const RATES: usize = 18;
 
-pub const AT: usize = 19;
+pub const SINC: usize = 19;
 
-pub const RAMP: usize = 20;
+pub const AT: usize = 20;
 
-pub const RAW: usize = 21;
+pub const RAMP: usize = 21;
 
-pub const FORCE: usize = 22;
+pub const RAW: usize = 22;
 
-pub const HELP: usize = 23;
+pub const FORCE: usize = 23;
 
-pub const SHORT_HELP: usize = 24;
+pub const HELP: usize = 24;
 
-pub const VERSION: usize = 25;
+pub const SHORT_HELP: usize = 25;
+
+pub const VERSION: usize = 26;
 
 // The complaints by their lines in the text below.
 pub const BAD_NUMBER: usize = 1;
@@ -102,8 +104,8 @@ pub const IDLE: usize = 22;
 
 pub const LOG_ON_OUTPUT: usize = 23;
 
-const NAMES: [u8; 183] =
-    *b"--ratio --m --cutoff --chunk --channels --mask --tones --degree --fixed --window --in --out --log --plan --table --status --rates --sinc --at --ramp --raw --force --help -h --version ";
+const NAMES: [u8; 193] =
+    *b"--ratio --m --cutoff --chunk --channels --mask --tones --degree --fixed --window --in --out --log --plan --table --passlog --status --rates --sinc --at --ramp --raw --force --help -h --version ";
 
 // The blends, and the windows by their long and their short names.
 pub const BLENDS: [u8; 31] = *b"nearest linear quadratic cubic ";

@@ -11,6 +11,7 @@ use crate::names::LOG;
 use crate::names::M;
 use crate::names::MASK;
 use crate::names::OUTPUT;
+use crate::names::PASSLOG;
 use crate::names::PLAN;
 use crate::names::RATIO;
 use crate::names::RAW;
@@ -56,6 +57,7 @@ pub struct Options {
     pub input: Place,
     pub output: Place,
     pub log: Place,
+    pub passlog: Place,
     pub plan: Place,
     pub status: Place,
     pub changes: usize,
@@ -124,6 +126,7 @@ pub fn options_of(r: Reading, slots: &[u64]) -> Options {
         input: place_of(slots, seen, INPUT),
         output: place_of(slots, seen, OUTPUT),
         log: place_of(slots, seen, LOG),
+        passlog: place_of(slots, seen, PASSLOG),
         plan: place_of(slots, seen, PLAN),
         status: place_of(slots, seen, STATUS),
         changes: r.changes,

@@ -92,7 +92,7 @@ fn is_dash(word: &[u8]) -> bool {
 }
 
 // A file's name, which begins at `from` in the word at the place `at`. `-` is a standard stream, and
-// leaves the place 0; the plan, the table and the status have none.
+// leaves the place 0; the plan, the table, the pass log and the status have none.
 fn with_file(r: Reading, name: usize, at: usize, from: usize, word: &[u8]) -> Reading {
     if !is_dash(word) {
         return got(r, name, at as u64, from as u64);

@@ -216,7 +216,7 @@ fn wide(n: u32) -> usize {
 
 // With --tones nothing goes but --out, --status and --force.
 fn fits_tones(seen: u64) -> bool {
-    let idle = seen & 0x3eef7e;
+    let idle = seen & 0x7def7e;
     if idle == 0 {
         return true;
     }

@@ -66,8 +66,23 @@ fn tell_empty(left: usize) {
     );
 }
 
-// The log and its head, then the output, so that no output is emptied for a log that cannot be written.
-fn opened(s: State, o: Options, files: Files, table: &[f64]) -> Files {
+// The pass log, with the record of the construction of s.
+fn recorded(s: State, o: Options, files: Files) -> Files {
+    let f = options::open_passlog(o, files);
+    if pass_log::write_construction(f.passlog, s.index) {
+        return f;
+    }
+    os::fail(b"resample: writing the pass log");
+    options::no_files(false)
+}
+
+// The pass log, the log and its head, then the output, so that no output is emptied for a log that cannot be
+// written.
+fn opened(s: State, o: Options, read: Files, table: &[f64]) -> Files {
+    let files = recorded(s, o, read);
+    if !files.good {
+        return files;
+    }
     let logged = options::open_log(o, files);
     if !logged.good {
         return logged;

@@ -7,6 +7,7 @@ use course::before_block;
 use course::finished;
 use course::is_going;
 use course::kept_of;
+use course::not_recorded;
 use course::progressed;
 use course::refused;
 use course::run_of;
@@ -64,6 +65,24 @@ fn log_block(log: i32, block: u64, s: State, p: Pass, index: f64) -> bool {
     )
 }
 
+// The line of a block in the log.
+fn logged(p: Pass, files: Files, block: u64, s: State, index: f64) -> Pass {
+    if log_block(files.log, block, s, p, index) {
+        return p;
+    }
+    not_logged(p)
+}
+
+// The record of a block in the pass log.
+fn recorded(p: Pass, files: Files, block: u64, s: State, index: f64) -> Pass {
+    let t = state::step_now(s);
+    let d = plan::t_ratio_increment(s);
+    if pass_log::write_block(files.passlog, s.output, s.input, t, d, index) {
+        return p;
+    }
+    not_recorded(p, files, block)
+}
+
 // The pass after an accepted block of the record s, whose frames k are written.
 fn counted(p: Pass, s: State, frames: usize, k: KeptFrames) -> Pass {
     let counts = p.counts;
@@ -95,7 +114,8 @@ fn is_last(raw: bool, s: State, r: Reading, ended: bool, k: KeptFrames) -> bool 
     ended & (k.to < s.output)
 }
 
-// Writes an accepted block of the record s and its line.
+// Writes an accepted block of the record s, and then its line and its record, each whatever becomes of the
+// other: neither log speaks of frames that were not written, or lacks a block for the other's sake.
 fn accepted(
     p: Pass,
     s: State,
@@ -111,9 +131,10 @@ fn accepted(
     if !write_frames(files.output, output, s.channels, s.output, k.from, k.to) {
         return half_written(p, files);
     }
-    let q = counted(p, s, r.frames, k);
-    if !log_block(files.log, c.blocks, s, q, index) {
-        return not_logged(q);
+    let l = logged(counted(p, s, r.frames, k), files, c.blocks, s, index);
+    let q = recorded(l, files, c.blocks, s, index);
+    if !q.going {
+        return q;
     }
     if is_last(raw, s, r, p.ended, k) {
         return finished(q);
