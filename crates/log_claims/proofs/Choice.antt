@@ -1,22 +1,22 @@
 -- Which records salvage keeps. Assumes nothing.
 use mathlib.Core.Bool.{Bool, true, false, true≢false}
-use mathlib.Core.List.{List, [], _∷_, _++_, append-assoc, append-nil}
+use mathlib.Core.List.{List, [], _∷_, _++_, append-assoc}
 use mathlib.Core.Logic.{_⊎_, inl, inr, _↔_}
 use mathlib.Core.Path.{_≡_, refl, sym, ap, _∙_, subst}
 use Prim.Native.Nat.{ℕ, _+_, _-_, _≤_, _<_}
 use native.Mathlib.Omega.{arith}
 use borrow.Author.Tests.{ltb-true, ltb-false}
 use lib.Dec.{ltb}
-use lib.ListN.{length, take, drop, length-append, length-drop}
-use lib.Seq.{take-at, drop-drop, drop-at, length-take-le, drop-append-seam}
+use lib.ListN.{length, drop, length-append, length-drop}
+use lib.Seq.{drop-drop, drop-append-seam}
 use Rattle.log_records.specs.Records.{twoAt, agrees, recordLength}
 use Rattle.log_records.proofs.Places.{stands}
-use Rattle.log_claims.proofs.Local.{more-agrees, alone-agrees}
+use Rattle.log_claims.proofs.Local.{more-agrees}
 use Rattle.log_salvage.specs.declared.Stretch.{Stretch}
 use Rattle.log_salvage.specs.declared.Stretch.the-variants.{Skipped, Kept, End}
-use Rattle.log_claims.specs.Listing.{stretchesFrom, listing, copyOf, salvaged}
-use Rattle.log_claims.specs.Claims.{Listed, IsKept, IsSkipped, Walk, Good, AllGood, joined, keptAll, keptParts}
-use Rattle.log_claims.proofs.Walks.{walks, listing-walks, kept-length}
+use Rattle.log_claims.specs.Listing.{listing}
+use Rattle.log_claims.specs.Claims.{Listed, IsKept, IsSkipped, Walk, Good, AllGood, joined, keptAll}
+use Rattle.log_claims.proofs.Walks.{listing-walks, kept-length}
 
 -- ---- two stretches that are the same
 abbrev startOf : Stretch → ℕ

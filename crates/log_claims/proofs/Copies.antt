@@ -1,17 +1,19 @@
 -- What salvage copies: good records alone to the bit, and its own output again. Assumes nothing.
+use mathlib.Core.Bool.{true}
 use mathlib.Core.List.{List, [], _∷_, _++_, append-nil, append-assoc}
 use mathlib.Core.Path.{_≡_, refl, sym, ap, _∙_, subst}
-use Prim.Native.Nat.{ℕ, _+_, _≤_, _<_}
+use Prim.Native.Nat.{ℕ, _+_, _≤_}
 use native.Mathlib.Omega.{arith}
 use lib.ListN.{length, take, drop, length-append}
 use lib.Seq.{take-append-seam, drop-append-seam, drop-drop, length-take-le}
-use Rattle.log_records.specs.Records.{twoAt, agrees, recordLength}
+use Rattle.log_records.specs.Records.{twoAt, isKind, recordOf}
 use Rattle.log_records.proofs.Places.{stands}
 use Rattle.log_claims.proofs.Local.{alone-agrees}
 use Rattle.log_salvage.specs.declared.Stretch.{Stretch}
 use Rattle.log_salvage.specs.declared.Stretch.the-variants.{Skipped, Kept, End}
 use Rattle.log_claims.specs.Listing.{stretchesFrom, listing, copyOf, salvaged}
 use Rattle.log_claims.specs.Claims.{IsKept, Walk, Good, AllGood, joined, keptAll, keptParts}
+use Rattle.log_claims.proofs.ReadBack.{record-agrees, record-length, length-back}
 use Rattle.log_claims.proofs.Walks.{walks, listing-walks, kept-length}
 use Rattle.log_claims.proofs.Choice.{walk-one, all-kept}
 
@@ -41,6 +43,13 @@ copy-all log at (r ∷ rs) rest e =
 
 pub alone-copied : (rs : List (List ℕ)) → AllGood rs → salvaged (joined rs) ≡ joined rs
 alone-copied rs g = ap (copyOf (joined rs)) (alone-kept rs g) ∙ copy-all (joined rs) 0 rs [] (sym (append-nil (joined rs)))
+
+-- what the writer writes is a good record: so a log that it wrote, record after record, is listed as just these
+pub record-good : (kind : ℕ) (payload : List ℕ) → isKind kind ≡ true → length payload ≤ 64 → Good (recordOf kind payload)
+record-good kind payload k h =
+    let r = recordOf kind payload in
+    let y = record-agrees kind payload k h in
+    record { agrees-it = y; long = record-length kind payload k h ∙ ap (λ (i : ℕ). 7 + i) (sym (length-back kind payload k h)) ∙ sym (kept-length r y) }
 
 -- ---- "salvage of its own output keeps every record and skips nothing"
 copy-joined : (log : List ℕ) (l : List Stretch) → copyOf log l ≡ joined (keptParts log l)

@@ -1,7 +1,6 @@
 -- Logs and their listings, worked out on the definitions: document 02's own, and a false record of each kind that costs a good one. Assumes nothing.
-use mathlib.Core.List.{List, [], _∷_, _++_}
+use mathlib.Core.List.{[], _∷_, _++_}
 use mathlib.Core.Path.{_≡_, refl}
-use Prim.Native.Nat.{ℕ}
 use Rattle.log_records.specs.Records.{total, recordOf, agrees}
 use Rattle.log_salvage.specs.declared.Stretch.the-variants.{Skipped, Kept}
 use Rattle.log_salvage.specs.Salvage.{skips, stretchAt}

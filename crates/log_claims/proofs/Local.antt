@@ -1,16 +1,16 @@
 -- Whether a record stands first among some bytes is settled by its own bytes: others behind them, or none, change nothing. Assumes nothing.
 use mathlib.Core.Bool.{Bool, true, false, _&&_}
-use mathlib.Core.List.{List, [], _∷_, _++_}
+use mathlib.Core.List.{List, _++_}
 use mathlib.Core.Path.{_≡_, refl, sym, ap, _∙_}
-use Prim.Native.Nat.{ℕ, _+_, _*_, _%_, _≤_, _<_}
-use native.Mathlib.Nat.{le-refl, le-trans}
+use Prim.Native.Nat.{ℕ, _+_, _≤_, _<_}
+use native.Mathlib.Nat.{le-refl}
 use native.Mathlib.Omega.{arith}
-use borrow.Author.Tests.{le-leb, lt-leb, leb-true, leb-false}
-use lib.Dec.{eqb, leb, lit≤, lit<}
+use borrow.Author.Tests.{le-leb, leb-true}
+use lib.Dec.{eqb, leb, lit≤}
 use lib.ListN.{length, getD, take, drop, length-append}
 use lib.Seq.{getD-take, take-take, take-add, drop-at, length-take-le, take-append-le}
-use Rattle.log_records.specs.Records.{twoAt, isKind, total, sumOf, markAgrees, kindAgrees, lengthAgrees, sumAgrees, agrees}
-use Rattle.log_records.proofs.Places.{Stands, stands, fail-length}
+use Rattle.log_records.specs.Records.{twoAt, isKind, sumOf, markAgrees, kindAgrees, lengthAgrees, sumAgrees, agrees}
+use Rattle.log_records.proofs.Places.{stands, fail-length}
 
 -- the same first m bytes
 module _ (m : ℕ) (bs cs : List ℕ) (e : take m bs ≡ take m cs) where

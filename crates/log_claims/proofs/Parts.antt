@@ -15,7 +15,7 @@ use Rattle.log_salvage.specs.declared.Stretch.{Stretch}
 use Rattle.log_salvage.specs.declared.Stretch.the-variants.{Skipped, Kept, End}
 use Rattle.log_salvage.specs.Salvage.{stopsAt, skips, stretchAt}
 use Rattle.log_claims.specs.Listing.{listing}
-use Rattle.log_claims.specs.Claims.{IsKept, IsSkipped, Walk, NoneIn, pending}
+use Rattle.log_claims.specs.Claims.{IsKept, Walk, NoneIn, pending}
 use Rattle.log_claims.proofs.Walks.{listing-walks, passes, no-record, all-there, kept-length}
 use Rattle.log_claims.proofs.Choice.{walk-one}
 

@@ -5,12 +5,13 @@ use mathlib.Core.Path.{_≡_, refl, sym, ap, _∙_}
 use Prim.Native.Nat.{ℕ, suc, _+_, _*_, _/_, _%_, _-_, _≤_, _<_}
 use native.Mathlib.Nat.{mod-eq-of-lt}
 use native.Mathlib.Omega.{arith}
-use borrow.Author.Tests.{le-leb, eq-eqb, eqb-true}
-use lib.Dec.{eqb, leb, lit≤, lit<}
+use borrow.Author.Tests.{le-leb, eq-eqb, eqb-true, leb-true}
+use lib.Dec.{eqb, leb}
 use lib.ListN.{length, getD, take, drop, length-append, length-drop, take-append-drop, List·getD-append}
-use lib.Seq.{take-at, getD-append-add, getD-append-seam, take-append-seam, drop-append-seam, take-append-le, drop-append-le, drop-drop, getD-drop, drop-cons, length-take-le, take-add, take-length}
-use Rattle.error.proofs.Ladder.{both, join}
-use Rattle.log_records.specs.Records.{twoOf, twoAt, isKind, total, bodyOf, sumOf, recordOf, markAgrees, kindAgrees, lengthAgrees, sumAgrees, agrees, recordLength, readAt}
+use lib.Seq.{take-at, getD-append-add, getD-append-seam, take-append-seam, drop-append-seam, take-append-le, drop-append-le, drop-drop, getD-drop, drop-cons, length-take-le}
+use Rattle.error.specs.Refusals.{Said, given, unless}
+use Rattle.error.proofs.Ladder.{both, join, accepted, same-given}
+use Rattle.log_records.specs.Records.{twoOf, twoAt, isKind, total, bodyOf, sumOf, recordOf, markAgrees, kindAgrees, lengthAgrees, sumAgrees, agrees, recordLength, readAt, putSaid, placed, putArea}
 use Rattle.log_records.specs.declared.Read.the-variants.{Record}
 use Rattle.log_records.proofs.Places.{Stands, stands, read-some}
 use Rattle.log_records.proofs.Written.{kind-most}
@@ -89,6 +90,23 @@ module _ (kind : ℕ) (payload : List ℕ) (k : isKind kind ≡ true) (h : lengt
         ap (take n) (sym (drop-drop 5 at log) ∙ ap (drop 5) here ∙ drop-append-le 5 r rest (omega (arith, record-length)))
             ∙ take-append-le n (drop 5 r) rest (omega (arith, record-length, length-drop 5 r)) ∙ payload-back,
       )
+
+-- what the writer left at the front of lent bytes, behind any others, is read back
+pub written-reads : (kind : ℕ) (payload out front : List ℕ) (m : ℕ) → putSaid kind payload (length out) ≡ given m
+    → (readAt (front ++ putArea kind payload out) (length front) ≡ Record kind (length front + 5) (length payload) (length front + m))
+    × (take (length payload) (drop (length front + 5) (front ++ putArea kind payload out)) ≡ payload)
+unfolding putSaid placed
+written-reads kind payload out front m e =
+    let n = length payload in
+    let a = accepted (isKind kind) 11 [] (unless (leb n 64) 21 [] (unless (leb (7 + n) (length out)) 22 [] (given (7 + n)))) m e in
+    let b = accepted (leb n 64) 21 [] (unless (leb (7 + n) (length out)) 22 [] (given (7 + n))) m (a .1) in
+    let c = accepted (leb (7 + n) (length out)) 22 [] (given (7 + n)) m (b .1) in
+    let same : 7 + n ≡ m = same-given (7 + n) m (c .1) in
+    let area : putArea kind payload out ≡ recordOf kind payload ++ drop m out = ap (λ (s : Said ℕ). placed s (recordOf kind payload) out) e in
+    let r = reads-back kind payload (a .0) (leb-true n 64 (b .0)) front (drop m out) in (
+      ap (λ (q : List ℕ). readAt (front ++ q) (length front)) area ∙ r .0 ∙ ap (λ (i : ℕ). Record kind (length front + 5) n (length front + i)) same,
+      ap (λ (q : List ℕ). take n (drop (length front + 5) (front ++ q))) area ∙ r .1,
+    )
 
 -- the other way: bytes that agree are what the writer writes of that kind and payload
 module _ (bs : List ℕ) (y : agrees bs ≡ true) (small : (i : ℕ) → getD bs i 0 < 256) where

@@ -1,22 +1,20 @@
 -- The listing is a walk over the whole log, and the only one. Assumes nothing.
-use mathlib.Core.Bool.{Bool, true, false, cond, not, _&&_, _||_, true≢false, or-false}
-use mathlib.Core.List.{List, [], _∷_, _++_}
-use mathlib.Core.Logic.{_⊎_, inl, inr}
+use mathlib.Core.Bool.{Bool, true, false, not, _&&_, _||_, true≢false, or-false}
+use mathlib.Core.List.{List, [], _∷_}
 use mathlib.Core.Path.{_≡_, refl, sym, ap, _∙_, subst}
 use Prim.Native.Nat.{ℕ, zero, suc, _+_, _-_, _≤_, _<_}
-use native.Mathlib.Nat.{add-zero, add-assoc}
+use native.Mathlib.Nat.{add-zero}
 use native.Mathlib.Omega.{arith}
-use borrow.Author.Tests.{lt-ltb, le-ltb, ltb-true, ltb-false}
+use borrow.Author.Tests.{ltb-true, ltb-false}
 use lib.Dec.{ltb}
-use lib.ListN.{length, getD, take, drop, length-drop, drop-of-length-le}
-use lib.Seq.{drop-cons, drop-drop}
+use lib.ListN.{length, drop, length-drop}
 use Rattle.log_records.specs.Records.{twoAt, agrees, recordLength}
-use Rattle.log_records.proofs.Places.{Stands, stands}
+use Rattle.log_records.proofs.Places.{stands}
 use Rattle.log_salvage.specs.declared.Stretch.{Stretch}
-use Rattle.log_salvage.specs.declared.Stretch.the-variants.{Skipped, Kept, End}
+use Rattle.log_salvage.specs.declared.Stretch.the-variants.{Skipped, Kept}
 use Rattle.log_salvage.specs.Salvage.{stopsAt, skips, stretchAt}
 use Rattle.log_claims.specs.Listing.{endOf, withRest, stretchesFrom, listing}
-use Rattle.log_claims.specs.Claims.{IsKept, IsSkipped, Walk}
+use Rattle.log_claims.specs.Claims.{Walk}
 use Rattle.log_salvage.proofs.Steps.{skips-stop, skips-pass, skips-end, is-kept, is-skipped, is-end}
 
 -- ---- what is skipped: the walk stops at none of these bytes

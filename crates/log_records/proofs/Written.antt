@@ -1,20 +1,20 @@
 -- The writer: its sum, the parts of a record one behind the other, and what it leaves. Assumes nothing.
-use mathlib.Core.Bool.{Bool, true}
-use mathlib.Core.List.{List, [], _∷_, _++_, append-assoc}
-use mathlib.Core.Path.{_≡_, refl, sym, ap, _∙_, subst}
-use Prim.Native.Nat.{ℕ, _+_, _%_, _≤_, _<_}
+use mathlib.Core.Bool.{true}
+use mathlib.Core.List.{List, _∷_, _++_}
+use mathlib.Core.Path.{_≡_, sym, ap, _∙_, subst}
+use Prim.Native.Nat.{ℕ, _+_, _≤_}
 use native.Mathlib.Nat.{zero-add}
 use native.Mathlib.Omega.{arith}
 use borrow.Author.Tests.{le-leb, leb-true}
 use lib.Dec.{leb}
 use lib.Ieee.{Float}
 use lib.ListN.{length, take, drop, length-append, length-drop}
-use lib.Seq.{paste, take-all, take-length}
+use lib.Seq.{take-all, take-length}
 use Rattle.error.specs.Refusals.{Said, given, refused}
 use Rattle.error.proofs.Ladder.{both}
 use Rattle.printer.specs.Put.{putIn}
 use Rattle.printer.proofs.Texts.{TextPut, text-behind}
-use Rattle.log_records.specs.Records.{twoOf, isKind, total, bodyOf, sumOf, recordOf, putSaid, placed, putArea}
+use Rattle.log_records.specs.Records.{twoOf, isKind, total, sumOf, recordOf, putSaid, placed, putArea}
 use Rattle.log_records.proofs.Sums.{total-append}
 
 pub kind-most : (kind : ℕ) → isKind kind ≡ true → kind ≤ 4

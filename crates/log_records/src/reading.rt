@@ -3,7 +3,6 @@ use crate::Read;
 ghost use mathlib.Core.Path.{_≡_};
 ghost use mathlib.Core.Bool.{_&&_};
 ghost use Prim.Native.Nat.{_+_, _*_, _<_, _≤_};
-ghost use lib.Dec.{leb};
 ghost use lib.ListN.{length, take, drop};
 ghost use Rattle.log_records.specs.Records.{twoAt, isKind, total, markAgrees, kindAgrees, sumAgrees, recordLength, readAt};
 

@@ -6,10 +6,10 @@ use crate::reading::total_of;
 use printer::put_bytes;
 ghost use mathlib.Core.Bool.{true};
 ghost use mathlib.Core.Path.{_≡_};
-ghost use mathlib.Core.List.{[], _∷_, _++_};
+ghost use mathlib.Core.List.{_∷_, _++_};
 ghost use Prim.Native.Nat.{_+_, _≤_};
 ghost use lib.ListN.{length, drop};
-ghost use Rattle.log_records.specs.Records.{twoOf, isKind, bodyOf, sumOf, recordOf, saidPut, putSaid, putArea};
+ghost use Rattle.log_records.specs.Records.{twoOf, isKind, sumOf, recordOf, saidPut, putSaid, putArea};
 
 // The mark, the kind and the length. Only this crate calls this function.
 fn head_of(kind: u64, n: usize) -> [u8; 5]

@@ -1,18 +1,18 @@
 -- The walk of salvage, place by place. Assumes nothing.
-use mathlib.Core.Bool.{Bool, true, false, cond, not, _&&_, _||_}
+use mathlib.Core.Bool.{Bool, true, false, not}
 use mathlib.Core.List.{List, [], _∷_}
 use mathlib.Core.Path.{_≡_, refl, sym, ap, _∙_}
-use Prim.Native.Nat.{ℕ, zero, suc, _+_, _-_, _≤_, _<_}
+use Prim.Native.Nat.{ℕ, suc, _+_, _-_, _≤_, _<_}
 use native.Mathlib.Numerals.{add-one}
 use native.Mathlib.Omega.{arith}
 use borrow.Author.Tests.{le-leb, lt-leb, lt-ltb, le-ltb, ltb-true, ltb-false, not-true, not-false}
 use lib.Dec.{ltb, leb}
 use lib.ListN.{length, getD, drop, drop-of-length-le, length-drop}
 use lib.Seq.{drop-cons}
-use Rattle.log_records.specs.Records.{agrees, recordLength}
+use Rattle.log_records.specs.Records.{recordLength}
 use Rattle.log_records.proofs.Places.{of-length, of-none}
 use Rattle.log_salvage.specs.declared.Stretch.the-variants.{Skipped, Kept, End}
-use Rattle.log_salvage.specs.Salvage.{stopsAt, skips, stretchOf, stretchAt}
+use Rattle.log_salvage.specs.Salvage.{stopsAt, skips, stretchAt}
 
 -- ---- a place is judged
 pub stops-record : (last : Bool) (bs : List ℕ) (n : ℕ) → n ≡ recordLength bs → 0 < n → false ≡ not (stopsAt last bs)

@@ -2,7 +2,6 @@
 use mathlib.Core.List.{[], _++_}
 use Prim.Native.Nat.{ℕ}
 use lib.Dec.{lit≤}
-use lib.Ieee.{binary64, toBits}
 use lib.ListN.{replicate}
 use borrow.Author.Needs.{needs}
 use Rattle.samples.specs.Samples.{bytesFrom, eightOf}

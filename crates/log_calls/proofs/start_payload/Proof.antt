@@ -1,11 +1,11 @@
 -- `log_calls::start_payload` meets its contract. Assumes nothing.
-use mathlib.Core.List.{[], _++_}
+use mathlib.Core.List.{[]}
 use Prim.Native.Nat.{ℕ}
 use lib.Dec.{lit≤}
 use lib.Ieee.{binary64, toBits}
 use lib.ListN.{replicate}
 use borrow.Author.Needs.{needs}
-use Rattle.samples.specs.Samples.{bytesFrom, eightOf}
+use Rattle.samples.specs.Samples.{eightOf}
 use Rattle.log_calls.proofs.Fronts.{front-none, front-next, front-done}
 use Rattle.log_calls.proofs.start_payload.Statement.{statement}
 use Rattle.log_calls.proofs.start_payload.Tie as tie
