@@ -6,3 +6,4 @@ pub mod Choice
 pub mod Copies
 pub mod Parts
 pub mod Examples
+pub mod Settled
