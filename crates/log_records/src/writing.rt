@@ -16,7 +16,13 @@ fn head_of(kind: u64, n: usize) -> [u8; 5]
     requires { ⌜ (isKind kind ≡ true) × (n ≤ 64) ⌝ }
     ensures { λ r. ⌜ r ≡ 0xD7 ∷ 0x1A ∷ kind ∷ twoOf n ⌝ }
 {
-    [0xD7, 0x1A, kind as u8, (n % 256) as u8, (n / 256 % 256) as u8]
+    [
+        0xD7,
+        0x1A,
+        kind as u8,
+        (n % 256) as u8,
+        (n / 256 % 256) as u8,
+    ]
 }
 
 // The sum, of a head and a payload. Only this crate calls this function.
@@ -36,9 +42,11 @@ fn write(kind: u64, payload: &[u8], out: &mut [u8]) -> usize
 {
     let head = head_of(kind, payload.len());
     let sum = sum_of(head, payload);
-    let p = put_bytes(out, 0, &head);
-    let q = put_bytes(out, p, payload);
-    put_bytes(out, q, &sum)
+    let n = payload.len();
+    put_bytes(out, 0, &head);
+    put_bytes(out, 5, payload);
+    put_bytes(out, 5 + n, &sum);
+    7 + n
 }
 
 // Puts a record of that kind and payload at the front of `out`, and answers how many bytes it has. Takes the
