@@ -92,9 +92,7 @@ pub fn say_count(n: u64, one: &[u8], many: &[u8]) {
 // What was kept and skipped, at the end.
 pub fn tell_end(l: Listed) {
     if !l.good {
-        say(
-            b"salvage: broken off: the file of --out may have a record more, or a part of one\n",
-        );
+        say(b"salvage: broken off: the file of --out may have a record more, or a part of one\n");
     }
     say(b"salvage: kept ");
     say_count(l.records, b" record, ", b" records, ");

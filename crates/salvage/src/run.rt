@@ -17,13 +17,11 @@ use crate::walk::after;
 use log_salvage::Stretch;
 use log_salvage::next_stretch;
 use tally::plus;
-ghost use mathlib.Core.Bool.{false};
 ghost use mathlib.Core.Path.{_≡_};
 ghost use Prim.Native.Nat.{_-_, _<_, _≤_};
-ghost use lib.ListN.{length, take, drop};
+ghost use lib.ListN.{length, take};
 ghost use Rattle.log_salvage.specs.Salvage.{stretchAt};
-ghost use Rattle.salvage.specs.Walk.{walkAfter};
-ghost use Rattle.salvage.specs.Turn.{Inside, Follows};
+ghost use Rattle.salvage.specs.Turn.{Inside, Follows, Turned};
 
 pub struct Run {
     pub walk: Walk,
@@ -111,6 +109,7 @@ fn ended(r: Run) -> Run
 fn turn(r: Run, f: Files, buf: &mut [u8]) -> Run
     requires { ⌜ Inside (r .part) (now buf) × (71 ≤ length (now buf)) ⌝ }
     ensures { λ q. ⌜ Inside (q .part) (now (buf .exit)) ⌝ }
+    ensures { λ q. ⌜ Turned (stretchAt (take (r .part .end) (now (buf .entry))) (r .part .at) (r .part .last)) (r .walk) (r .part) (now (buf .entry)) (q .walk) (q .part) (now (buf .exit)) ⌝ }
 {
     let walk = r.walk;
     let part = r.part;
