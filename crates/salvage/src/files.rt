@@ -1,4 +1,5 @@
 // The files that the words name: opened in order, and never one in the place of another.
+use crate::listing::say;
 use crate::words::Words;
 use file_facts::Facts;
 
@@ -9,10 +10,6 @@ pub struct Files {
     pub output: i32,
     pub size: u64,
     pub good: bool,
-}
-
-fn say(text: &[u8]) {
-    io::write_all(libc::STDERR_FILENO, text);
 }
 
 fn no_files() -> Files {

@@ -16,9 +16,14 @@ pub struct Listed {
     pub good: bool,
 }
 
-// Why something could not be written.
+pub fn say(text: &[u8]) {
+    io::write_all(libc::STDERR_FILENO, text);
+}
+
+// Why something could not be written, and so nothing more is.
 fn failed(l: Listed, what: &[u8]) -> Listed {
     os::fail(what);
+    say(b"salvage: broken off: the file of --out may have a record more, or a part of one\n");
     let mut m = l;
     m.good = false;
     m
@@ -75,10 +80,6 @@ pub fn keep(l: Listed, w: Walk, fd: i32, record: &[u8]) -> Listed {
     before
 }
 
-pub fn say(text: &[u8]) {
-    io::write_all(libc::STDERR_FILENO, text);
-}
-
 // A number, with its noun for one and for any other number.
 pub fn say_count(n: u64, one: &[u8], many: &[u8]) {
     io::print_decimal(libc::STDERR_FILENO, n);
@@ -91,9 +92,6 @@ pub fn say_count(n: u64, one: &[u8], many: &[u8]) {
 
 // What was kept and skipped, at the end.
 pub fn tell_end(l: Listed) {
-    if !l.good {
-        say(b"salvage: broken off: the file of --out may have a record more, or a part of one\n");
-    }
     say(b"salvage: kept ");
     say_count(l.records, b" record, ", b" records, ");
     say_count(l.kept, b" byte; ", b" bytes; ");

@@ -38,12 +38,12 @@ fn percent(place: u64, size: u64) -> u64 {
 fn say_progress(place: u64, size: u64, records: u64) {
     let done = percent(place, size);
     say(b"salvage: ");
+    say_count(records, b" record kept, ", b" records kept, ");
     if done > 100 {
-        say_count(place, b" byte, ", b" bytes, ");
-    } else {
-        say_count(done, b"% of the log, ", b"% of the log, ");
+        say_count(place, b" byte of the log\n", b" bytes of the log\n");
+        return;
     }
-    say_count(records, b" record kept\n", b" records kept\n");
+    say_count(done, b"% of the log\n", b"% of the log\n");
 }
 
 // Says how far the walk is when the clock's second has changed, but for the first time, which may come at once.
