@@ -2,6 +2,7 @@
 // the table that are kept, and the answer.
 mod answer;
 mod leaves;
+mod logs;
 mod record;
 mod said;
 mod shown;
@@ -14,7 +15,6 @@ use record::left;
 use said::Head;
 use said::Said;
 use said::said_of;
-use script::line::Line;
 use script::line::command_in;
 use script::line::read_line;
 use script::reader::Input;
@@ -37,6 +37,10 @@ pub fn begin() -> Served {
         input: script::reader::start(),
         end: 0,
     }
+}
+
+fn served(kept: Kept, input: Input, end: usize) -> Served {
+    Served { kept, input, end }
 }
 
 // What a command says that takes numbers alone.
@@ -71,15 +75,14 @@ fn run_record(command: Command, kept: Kept, values: Values) -> Change {
 // Runs a command on what is kept, of which `work` and `table` hold the samples. The samples that it shows
 // are at the front of `output`.
 fn run(
-    line: Line,
+    command: Command,
     kept: Kept,
+    values: Values,
     input: &[f64],
     output: &mut [f64],
     work: &mut [f64],
     table: &mut [f64],
 ) -> Change {
-    let values = line.values;
-    let command = command_in(line);
     match command {
         Command::New => record::new(kept, record::made_poly(values), work),
         Command::NewSinc => record::new(kept, record::made_sinc(values), work),
@@ -98,7 +101,7 @@ fn run(
     }
 }
 
-// Reads a line, runs it, and puts its answer at the start of `out`.
+// Reads a line, runs it, and puts its answer at the start of `out`. `bytes` are those of the line.
 pub fn serve(
     before: Served,
     buf: &mut [u8],
@@ -107,15 +110,16 @@ pub fn serve(
     output: &mut [f64],
     work: &mut [f64],
     table: &mut [f64],
+    bytes: &mut [u8],
 ) -> Served {
-    let line = read_line(before.input, buf, input, output);
-    let change = run(line, before.kept, input, output, work, table);
-    let end = put_answer(out, change.said, output);
-    let kept = change.kept;
-    let then = line.input;
-    Served {
-        kept,
-        input: then,
-        end,
+    let line = read_line(before.input, buf, input, output, bytes);
+    let command = command_in(line);
+    let values = line.values;
+    if logs::is_of_log(command) {
+        let end = logs::answer(out, command, values, bytes);
+        return served(before.kept, line.input, end);
     }
+    let change = run(command, before.kept, values, input, output, work, table);
+    let end = put_answer(out, change.said, output);
+    served(change.kept, line.input, end)
 }
