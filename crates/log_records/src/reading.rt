@@ -34,8 +34,8 @@ fn head_agrees(log: &[u8], at: usize) -> bool
     requires { ⌜ at + 3 ≤ length (now log) ⌝ }
     ensures { λ r. ⌜ r ≡ (markAgrees (drop at (now (log .entry))) && kindAgrees (drop at (now (log .entry)))) ⌝ }
 {
-    let mark = (log[at] == 0xD7) & (log[at + 1] == 0x1A);
-    mark & is_kind(log[at + 2] as u64)
+    let kind = log[at + 2];
+    ((log[at] == 0xD7) & (log[at + 1] == 0x1A)) & ((1 <= kind) & (kind <= 4))
 }
 
 // So many bytes added up. Only this crate calls this function.

@@ -36,9 +36,11 @@ fn write(kind: u64, payload: &[u8], out: &mut [u8]) -> usize
 {
     let head = head_of(kind, payload.len());
     let sum = sum_of(head, payload);
-    let p = put_bytes(out, 0, &head);
-    let q = put_bytes(out, p, payload);
-    put_bytes(out, q, &sum)
+    let n = payload.len();
+    put_bytes(out, 0, &head);
+    put_bytes(out, 5, payload);
+    put_bytes(out, 5 + n, &sum);
+    7 + n
 }
 
 // Puts a record of that kind and payload at the front of `out`, and answers how many bytes it has. Takes the

@@ -8,11 +8,14 @@ use Rattle.log_records.specs.Records.{agrees, recordLength}
 use Rattle.log_salvage.specs.declared.Stretch.{Stretch}
 use Rattle.log_salvage.specs.declared.Stretch.the-variants.{Skipped, Kept, End}
 
--- "scanning left to right .., and one byte on after a failure": how many bytes of these are skipped, up to the next record or the end.
--- Where the log goes on behind them (`last` is false) no place is judged with fewer bytes than a record can have
+-- whether the walk stops there: before a record and, where the log goes on behind these bytes (`last` is false), before too few to judge: a record has up to 71
+abbrev pub stopsAt : Bool → List ℕ → Bool
+stopsAt last bs = agrees bs || (not last && ltb (length bs) 71)
+
+-- "scanning left to right .., and one byte on after a failure": how many bytes of these are skipped
 unfoldable pub skips : Bool → List ℕ → ℕ
 skips last [] = 0
-skips last (b ∷ bs) = cond (agrees (b ∷ bs) || (not last && ltb (length (b ∷ bs)) 71)) 0 (suc (skips last bs))
+skips last (b ∷ bs) = cond (stopsAt last (b ∷ bs)) 0 (suc (skips last bs))
 
 -- the stretch that begins at the place `at`, of these bytes
 abbrev pub stretchOf : Bool → ℕ → List ℕ → Stretch

@@ -1,13 +1,11 @@
 // Salvage of a pass log: a walk from stretch to stretch that is lent the log alone and needs no room of its
 // own; who calls it copies.
 use log_records::length_at;
-ghost use mathlib.Core.Bool.{_&&_, _||_, not};
+ghost use mathlib.Core.Bool.{not};
 ghost use mathlib.Core.Path.{_≡_};
 ghost use Prim.Native.Nat.{_+_, _<_};
-ghost use lib.Dec.{ltb};
 ghost use lib.ListN.{length, drop};
-ghost use Rattle.log_records.specs.Records.{agrees};
-ghost use Rattle.log_salvage.specs.Salvage.{skips, stretchAt};
+ghost use Rattle.log_salvage.specs.Salvage.{stopsAt, skips, stretchAt};
 
 // A stretch of the log, by its start and its length: skipped, or a record that is kept. At the end there is
 // none any more.
@@ -21,7 +19,7 @@ pub enum Stretch {
 // can. Only this crate calls this function.
 fn is_passed(part: &[u8], at: usize, last: bool) -> bool
     requires { ⌜ at < length (now part) ⌝ }
-    ensures { λ r. ⌜ r ≡ not (agrees (drop at (now (part .entry))) || (not last && ltb (length (drop at (now (part .entry)))) 71)) ⌝ }
+    ensures { λ r. ⌜ r ≡ not (stopsAt last (drop at (now (part .entry)))) ⌝ }
 {
     if length_at(part, at) > 0 {
         return false;

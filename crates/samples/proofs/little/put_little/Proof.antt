@@ -8,16 +8,13 @@ use Rattle.samples.proofs.little.put_little.Statement.{statement}
 use Rattle.samples.proofs.little.put_little.Tie as tie
 
 abbrev Inv-loop : tie.InvT-loop
-Inv-loop bytes₀ at x n k₀ bytes k = (k ≤ 8) × Put bytes₀ at n bytes k
+Inv-loop bytes₀ at n width k₀ bytes k = (k ≤ width) × Put bytes₀ at n width bytes k
 
 abbrev μ-loop : tie.MeasureT-loop
-μ-loop bytes₀ at x n k₀ bytes k = 8 - k
-
-bits-of-requires : tie.Need-bits-of-requires Inv-loop μ-loop
-bits-of-requires c κs = search needs
+μ-loop bytes₀ at n width k₀ bytes k = width - k
 
 loop-holds : tie.Need-loop-holds Inv-loop μ-loop
-loop-holds c = (omega arith, put-none _ _ _)
+loop-holds c = (omega arith, put-none _ _ _ _)
 
 mul-bytes : tie.Need-mul-bytes Inv-loop μ-loop
 mul-bytes c = search needs
@@ -41,13 +38,13 @@ loop-less : tie.Need-loop-less Inv-loop μ-loop
 loop-less c = search needs
 
 loop-again : tie.Need-loop-again Inv-loop μ-loop
-loop-again c = (omega arith, put-next _ _ _ _ (c .before .loop .k) _ (c .before .loop .inv .1) (omega arith) (omega arith) refl)
+loop-again c = (omega arith, put-next _ _ _ _ _ (c .before .loop .k) _ (c .before .loop .inv .1) (omega arith) (omega arith) refl)
 
 same-length : tie.Need-same-length Inv-loop μ-loop
 same-length c = c .before .loop .inv .1 .long
 
 returns : tie.Need-returns Inv-loop μ-loop
-returns c = put-done _ _ _ _ _ _ (c .before .loop .inv .1) (omega arith) (c .before .before .bits-of .ensures)
+returns c = put-done _ _ _ _ _ _ (c .before .loop .inv .1) (omega arith)
 
 pub put-little-spec : {M : Type 1} → statement M
 put-little-spec =
@@ -55,7 +52,6 @@ put-little-spec =
     (tie.spec
     Inv-loop
     μ-loop
-    bits-of-requires
     loop-holds
     mul-bytes
     shr-bytes

@@ -1,0 +1,4 @@
+-- What the proofs cite.
+pub mod Sums
+pub mod Places
+pub mod Written
