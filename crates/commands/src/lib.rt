@@ -15,6 +15,7 @@ use record::left;
 use said::Head;
 use said::Said;
 use said::said_of;
+use script::line::Line;
 use script::line::command_in;
 use script::line::read_line;
 use script::reader::Input;
@@ -37,10 +38,6 @@ pub fn begin() -> Served {
         input: script::reader::start(),
         end: 0,
     }
-}
-
-fn served(kept: Kept, input: Input, end: usize) -> Served {
-    Served { kept, input, end }
 }
 
 // What a command says that takes numbers alone.
@@ -101,6 +98,44 @@ fn run(
     }
 }
 
+// The answer to a line, at the start of the buffer. The commands on the pass log put theirs themselves, and
+// nothing was run for them.
+fn put(
+    out: &mut [u8],
+    command: Command,
+    values: Values,
+    bytes: &[u8],
+    said: Said,
+    area: &[f64],
+) -> usize {
+    match command {
+        Command::LogPut => logs::logput(out, values, bytes),
+        Command::LogRead => logs::logread(out, values, bytes),
+        Command::Salvage => logs::salvage(out, values, bytes),
+        _ => put_answer(out, said, area),
+    }
+}
+
+// Runs a line, and puts its answer.
+fn answered(
+    line: Line,
+    before: Kept,
+    out: &mut [u8],
+    input: &[f64],
+    output: &mut [f64],
+    work: &mut [f64],
+    table: &mut [f64],
+    bytes: &[u8],
+) -> Served {
+    let values = line.values;
+    let command = command_in(line);
+    let change = run(command, before, values, input, output, work, table);
+    let end = put(out, command, values, bytes, change.said, output);
+    let kept = change.kept;
+    let input = line.input;
+    Served { kept, input, end }
+}
+
 // Reads a line, runs it, and puts its answer at the start of `out`. `bytes` are those of the line.
 pub fn serve(
     before: Served,
@@ -113,13 +148,5 @@ pub fn serve(
     bytes: &mut [u8],
 ) -> Served {
     let line = read_line(before.input, buf, input, output, bytes);
-    let command = command_in(line);
-    let values = line.values;
-    if logs::is_of_log(command) {
-        let end = logs::answer(out, command, values, bytes);
-        return served(before.kept, line.input, end);
-    }
-    let change = run(command, before.kept, values, input, output, work, table);
-    let end = put_answer(out, change.said, output);
-    served(change.kept, line.input, end)
+    answered(line, before.kept, out, input, output, work, table, bytes)
 }

@@ -1,4 +1,5 @@
-// The commands on the pass log. They change nothing that is kept, and put their answers themselves.
+// The commands on the pass log, which put their answers themselves, each at the start of the buffer. They
+// answer how many bytes it has.
 use log_records::Put;
 use log_records::Read;
 use log_records::Refused;
@@ -13,7 +14,6 @@ use printer::put_decimal;
 use script::values::Values;
 use script::values::count_at;
 use script::values::number_at;
-use script::words::Command;
 use text::glyph_of;
 
 // The place behind so many bytes.
@@ -25,21 +25,18 @@ fn behind(start: usize, n: usize) -> usize {
     }
 }
 
-// The two digits of the byte at the place k.
-fn put_digits(out: &mut [u8], at: usize, bytes: &[u8], k: usize) -> usize {
-    if k >= bytes.len() {
-        return at;
-    }
-    let byte = bytes[k];
+// The two digits of a byte.
+fn put_digits(out: &mut [u8], at: usize, byte: u8) -> usize {
     let p = put_byte(out, at, glyph_of((byte / 16) as u64));
     put_byte(out, p, glyph_of((byte % 16) as u64))
 }
 
-// The digits of the bytes from one place up to another.
+// The digits of the bytes from one place up to another, as far as there are bytes.
 fn put_hexes(out: &mut [u8], at: usize, bytes: &[u8], from: usize, to: usize) -> usize {
+    let end = bytes_of(bytes, to);
     let mut p = at;
-    for k in from..to {
-        p = put_digits(out, p, bytes, k);
+    for k in from..end {
+        p = put_digits(out, p, bytes[k]);
     }
     p
 }
@@ -57,13 +54,13 @@ fn put_refused(out: &mut [u8], r: Refused) -> usize {
     put_decimal(out, p, log_records::number(r))
 }
 
-fn put_record_of(out: &mut [u8], record: &[u8], n: usize) -> usize {
+fn put_record_of(out: &mut [u8], record: &[u8; 4096], n: usize) -> usize {
     let p = put_bytes(out, 0, b"ok ");
     put_hexes(out, p, record, 0, n)
 }
 
 // A record of a kind and a payload, in lent bytes of which there are no more than a buffer has.
-fn logput(out: &mut [u8], values: Values, bytes: &[u8]) -> usize {
+pub fn logput(out: &mut [u8], values: Values, bytes: &[u8]) -> usize {
     let mut area = io::buffer();
     let kind = number_at(values, 0);
     let n = bytes_of(bytes, count_at(values, 1));
@@ -86,7 +83,7 @@ fn put_read(out: &mut [u8], log: &[u8], kind: u8, start: usize, n: usize, next: 
 }
 
 // The record at a place.
-fn logread(out: &mut [u8], values: Values, bytes: &[u8]) -> usize {
+pub fn logread(out: &mut [u8], values: Values, bytes: &[u8]) -> usize {
     let n = bytes_of(bytes, count_at(values, 1));
     match read_record(&bytes[..n], count_at(values, 0)) {
         Read::Record(kind, start, len, next) => put_read(out, bytes, kind, start, len, next),
@@ -158,26 +155,10 @@ fn put_walk(out: &mut [u8], at: usize, log: &[u8], listed: bool) -> usize {
 }
 
 // What salvage lists, and then what it keeps.
-fn salvage(out: &mut [u8], values: Values, bytes: &[u8]) -> usize {
+pub fn salvage(out: &mut [u8], values: Values, bytes: &[u8]) -> usize {
     let n = bytes_of(bytes, count_at(values, 0));
     let p1 = put_bytes(out, 0, b"ok ");
     let p2 = put_walk(out, p1, &bytes[..n], true);
     let p3 = put_byte(out, p2, 32);
     put_walk(out, p3, &bytes[..n], false)
-}
-
-pub fn is_of_log(command: Command) -> bool {
-    match command {
-        Command::LogPut | Command::LogRead | Command::Salvage => true,
-        _ => false,
-    }
-}
-
-// The whole answer, at the start of the buffer; how many bytes it has.
-pub fn answer(out: &mut [u8], command: Command, values: Values, bytes: &[u8]) -> usize {
-    match command {
-        Command::LogPut => logput(out, values, bytes),
-        Command::LogRead => logread(out, values, bytes),
-        _ => salvage(out, values, bytes),
-    }
 }
