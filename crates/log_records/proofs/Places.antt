@@ -41,7 +41,7 @@ fail-head : (m k r : Bool) → (m && k) ≡ false → (m && (k && r)) ≡ false
 fail-head true k r e = rw e
 fail-head false k r e = refl
 
-fail-length : (m k l s : Bool) → l ≡ false → (m && (k && (l && s))) ≡ false
+pub fail-length : (m k l s : Bool) → l ≡ false → (m && (k && (l && s))) ≡ false
 fail-length true true l s e = rw e
 fail-length true false l s e = refl
 fail-length false k l s e = refl

@@ -6,7 +6,6 @@ mod writing;
 
 ghost use mathlib.Core.Path.{_≡_};
 ghost use Rattle.log_records.specs.Records.{numberOf};
-
 pub use reading::length_at;
 pub use reading::read_record;
 pub use writing::put_record;

@@ -16,7 +16,13 @@ fn head_of(kind: u64, n: usize) -> [u8; 5]
     requires { ⌜ (isKind kind ≡ true) × (n ≤ 64) ⌝ }
     ensures { λ r. ⌜ r ≡ 0xD7 ∷ 0x1A ∷ kind ∷ twoOf n ⌝ }
 {
-    [0xD7, 0x1A, kind as u8, (n % 256) as u8, (n / 256 % 256) as u8]
+    [
+        0xD7,
+        0x1A,
+        kind as u8,
+        (n % 256) as u8,
+        (n / 256 % 256) as u8,
+    ]
 }
 
 // The sum, of a head and a payload. Only this crate calls this function.

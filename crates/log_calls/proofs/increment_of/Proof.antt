@@ -1,15 +1,13 @@
+-- `log_calls::increment_of` meets its contract. Assumes nothing.
+use borrow.Author.Tests.{ne-eqb}
 use Rattle.log_calls.proofs.increment_of.Statement.{statement}
 use Rattle.log_calls.proofs.increment_of.Tie as tie
-use Rattle.log_calls.proofs.increment_of.Reads as reads
-use Rattle.log_calls.proofs.increment_of.Lts as lts
 
--- src/lib.rt:24:9
 returns : tie.Need-returns
-returns c = ?
+returns c = rw (c .if1 .taken)
 
--- src/lib.rt:20:1
 returns-2 : tie.Need-returns-2
-returns-2 c = ?
+returns-2 c = rw (ne-eqb (c .before .args .output) 0 (c .if1 .left))
 
 pub increment-of-spec : {M : Type 1} → statement M
 increment-of-spec = tie.close (tie.spec returns returns-2)

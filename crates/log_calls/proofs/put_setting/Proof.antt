@@ -1,30 +1,25 @@
+-- `log_calls::put_setting` meets its contract. Assumes nothing.
 use borrow.Author.Needs.{needs}
+use Rattle.log_calls.proofs.Fronts.{of-payload}
 use Rattle.log_calls.proofs.put_setting.Statement.{statement}
 use Rattle.log_calls.proofs.put_setting.Tie as tie
-use Rattle.log_calls.proofs.put_setting.Reads as reads
-use Rattle.log_calls.proofs.put_setting.Lts as lts
-use Rattle.log_calls.proofs.setting_payload.Reads as setting-payload-reads
-use Rattle.log_records.proofs.put_record.Reads as put-record-reads
 
--- src/lib.rt:78:19
 setting-payload-requires : tie.Need-setting-payload-requires
 setting-payload-requires c κs = search needs
 
--- src/lib.rt:79:19
 slice-aggregate-put-record : tie.Need-slice-aggregate-put-record
 slice-aggregate-put-record c = search needs
 
--- src/lib.rt:79:5
 put-record-requires : tie.Need-put-record-requires
 put-record-requires c κs = search needs
 
--- src/lib.rt:74:1
 same-length : tie.Need-same-length
 same-length c = search needs
 
--- src/lib.rt:74:1
 returns : tie.Need-returns
-returns c = ?
+returns c =
+    let a = c .before .before .before .before .before .before .before .args in
+    of-payload 2 _ _ (a .out .now) (c .before .before .put-record .result) _ (c .before .before .before .before .before .setting-payload .ensures) (c .before .before .put-record .ensures)
 
 pub put-setting-spec : {M : Type 1} → statement M
 put-setting-spec =

@@ -1,30 +1,25 @@
+-- `log_calls::put_start` meets its contract. Assumes nothing.
 use borrow.Author.Needs.{needs}
+use Rattle.log_calls.proofs.Fronts.{of-payload}
 use Rattle.log_calls.proofs.put_start.Statement.{statement}
 use Rattle.log_calls.proofs.put_start.Tie as tie
-use Rattle.log_calls.proofs.put_start.Reads as reads
-use Rattle.log_calls.proofs.put_start.Lts as lts
-use Rattle.log_calls.proofs.start_payload.Reads as start-payload-reads
-use Rattle.log_records.proofs.put_record.Reads as put-record-reads
 
--- src/lib.rt:56:19
 start-payload-requires : tie.Need-start-payload-requires
 start-payload-requires c κs = search needs
 
--- src/lib.rt:57:22
 slice-aggregate-put-record : tie.Need-slice-aggregate-put-record
 slice-aggregate-put-record c = search needs
 
--- src/lib.rt:57:5
 put-record-requires : tie.Need-put-record-requires
 put-record-requires c κs = search needs
 
--- src/lib.rt:52:1
 same-length : tie.Need-same-length
 same-length c = search needs
 
--- src/lib.rt:52:1
 returns : tie.Need-returns
-returns c = ?
+returns c =
+    let a = c .before .before .before .before .before .before .before .args in
+    of-payload (a .kind) _ _ (a .out .now) (c .before .before .put-record .result) _ (c .before .before .before .before .before .start-payload .ensures) (c .before .before .put-record .ensures)
 
 pub put-start-spec : {M : Type 1} → statement M
 put-start-spec =

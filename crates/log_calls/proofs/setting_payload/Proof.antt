@@ -1,29 +1,35 @@
+-- `log_calls::setting_payload` meets its contract. Assumes nothing.
+use mathlib.Core.List.{[], _++_}
+use Prim.Native.Nat.{ℕ}
+use lib.Dec.{lit≤}
+use lib.Ieee.{binary64, toBits}
+use lib.ListN.{replicate}
 use borrow.Author.Needs.{needs}
+use Rattle.samples.specs.Samples.{bytesFrom, eightOf}
+use Rattle.log_calls.proofs.Fronts.{front-none, front-next, front-done}
 use Rattle.log_calls.proofs.setting_payload.Statement.{statement}
 use Rattle.log_calls.proofs.setting_payload.Tie as tie
-use Rattle.log_calls.proofs.setting_payload.Reads as reads
-use Rattle.log_calls.proofs.setting_payload.Lts as lts
-use Rattle.samples.proofs.put_little.Reads as put-little-reads
 
--- src/lib.rt:45:16
 slice-aggregate-put-little : tie.Need-slice-aggregate-put-little
 slice-aggregate-put-little c = search needs
 
--- src/lib.rt:45:5
 put-little-requires : tie.Need-put-little-requires
 put-little-requires c κs = search needs
 
--- src/lib.rt:46:16
 slice-aggregate-put-little-2 : tie.Need-slice-aggregate-put-little-2
 slice-aggregate-put-little-2 c = search needs
 
--- src/lib.rt:46:5
 put-little-requires-2 : tie.Need-put-little-requires-2
 put-little-requires-2 c κs = search needs
 
--- src/lib.rt:41:1
 returns : tie.Need-returns
-returns c = ?
+returns c =
+    let a = c .before .before .before .before .before .before .args in
+    let d = replicate {A = ℕ} 9 0 in
+    let w = bytesFrom (a .what) 0 1 in
+    let x = c .before .before .before .before .put-little .last .0 in
+    let first = front-next d [] d x 0 (a .what) 1 (front-none d) (c .before .before .before .before .put-little .ensures) in
+    front-done d (w ++ eightOf (a .value)) _ 9 (front-next d w x _ 1 (a .value) 8 first (c .before .put-little2 .ensures)) (lit≤ tt)
 
 pub setting-payload-spec : {M : Type 1} → statement M
 setting-payload-spec =

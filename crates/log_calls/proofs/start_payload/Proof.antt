@@ -1,21 +1,26 @@
+-- `log_calls::start_payload` meets its contract. Assumes nothing.
+use mathlib.Core.List.{[], _++_}
+use Prim.Native.Nat.{ℕ}
+use lib.Dec.{lit≤}
+use lib.Ieee.{binary64, toBits}
+use lib.ListN.{replicate}
 use borrow.Author.Needs.{needs}
+use Rattle.samples.specs.Samples.{bytesFrom, eightOf}
+use Rattle.log_calls.proofs.Fronts.{front-none, front-next, front-done}
 use Rattle.log_calls.proofs.start_payload.Statement.{statement}
 use Rattle.log_calls.proofs.start_payload.Tie as tie
-use Rattle.log_calls.proofs.start_payload.Reads as reads
-use Rattle.log_calls.proofs.start_payload.Lts as lts
-use Rattle.samples.proofs.put_sample.Reads as put-sample-reads
 
--- src/lib.rt:15:16
 slice-aggregate-put-sample : tie.Need-slice-aggregate-put-sample
 slice-aggregate-put-sample c = search needs
 
--- src/lib.rt:15:5
 put-sample-requires : tie.Need-put-sample-requires
 put-sample-requires c κs = search needs
 
--- src/lib.rt:11:1
 returns : tie.Need-returns
-returns c = ?
+returns c =
+    let a = c .before .before .before .args in
+    let d = replicate {A = ℕ} 8 0 in
+    front-done d (eightOf (toBits binary64 (a .index))) _ 8 (front-next d [] d _ 0 (toBits binary64 (a .index)) 8 (front-none d) (c .before .put-sample .ensures)) (lit≤ tt)
 
 pub start-payload-spec : {M : Type 1} → statement M
 start-payload-spec = tie.close (tie.spec slice-aggregate-put-sample put-sample-requires returns)

@@ -36,9 +36,9 @@ unfolding putSaid
 returns-3 c =
     let a = c .before .before .before .before .before .before .args in
     let s =
-        pass _ _ _ _ _ (passed (c .before .before .before .is-kind .ensures) (c .before .before .if1 .left))
-        (pass _ _ _ _ _ (le-leb (length (a .payload .now)) 64 (c .before .if2 .left))
-        (stop _ _ _ _ (lt-leb (7 + length (a .payload .now)) (length (a .out .now)) (c .if3 .taken)))) in
+    pass _ _ _ _ _ (passed (c .before .before .before .is-kind .ensures) (c .before .before .if1 .left))
+    (pass _ _ _ _ _ (le-leb (length (a .payload .now)) 64 (c .before .if2 .left))
+    (stop _ _ _ _ (lt-leb (7 + length (a .payload .now)) (length (a .out .now)) (c .if3 .taken)))) in
     (s, not-put (a .kind) (a .payload .now) (a .out .now) _ _ s)
 
 write-requires : tie.Need-write-requires
@@ -52,10 +52,10 @@ unfolding putSaid
 returns-4 c =
     let a = c .before .before .before .before .before .before .before .before .before .before .args in
     let s =
-        pass _ _ _ _ _ (passed (c .before .before .before .before .before .before .before .is-kind .ensures) (c .before .before .before .before .before .before .if1 .left))
-        (pass _ _ _ _ _ (le-leb (length (a .payload .now)) 64 (c .before .before .before .before .before .if2 .left))
-        (pass _ _ _ _ _ (le-leb (7 + length (a .payload .now)) (length (a .out .now)) (c .before .before .before .before .if3 .left))
-        (ap given (c .before .before .write .ensures .0)))) in
+    pass _ _ _ _ _ (passed (c .before .before .before .before .before .before .before .is-kind .ensures) (c .before .before .before .before .before .before .if1 .left))
+    (pass _ _ _ _ _ (le-leb (length (a .payload .now)) 64 (c .before .before .before .before .before .if2 .left))
+    (pass _ _ _ _ _ (le-leb (7 + length (a .payload .now)) (length (a .out .now)) (c .before .before .before .before .if3 .left))
+    (ap given (c .before .before .write .ensures .0)))) in
     (s, put (a .kind) (a .payload .now) (a .out .now) _ _ _ s (c .before .before .write .ensures .0) (c .before .before .write .ensures .1))
 
 pub put-record-spec : {M : Type 1} → statement M

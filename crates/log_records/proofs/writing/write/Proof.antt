@@ -37,10 +37,11 @@ same-length c = search needs
 
 returns : tie.Need-returns
 returns c =
-    let a = c .before .before .before .before .before .before .before .before .before .before .before .before .before .before .before .before .before .before in
-    (refl,
-    record-put (a .args .kind) (a .args .payload .now) (a .args .out .now) _ _ _ _ _ _ _ _ (a .pre .2) (c .before .before .before .before .before .before .before .before .before .before .before .before .before .before .before .head-of .ensures) (c .before .before .before .before .before .before .before .before .before .before .before .before .before .before .sum-of .ensures)
-    (c .before .before .before .before .before .before .before .before .before .before .before .put-bytes .ensures) (c .before .before .before .before .before .before .before .put-bytes2 .ensures) (c .before .before .put-bytes3 .ensures))
+    let a = c .before .before .before .before .before .before .before .before .before .before .before .before .before .before .before .before .before .before in (
+      refl,
+      record-put (a .args .kind) (a .args .payload .now) (a .args .out .now) _ _ _ _ _ _ _ _ (a .pre .2) (c .before .before .before .before .before .before .before .before .before .before .before .before .before .before .before .head-of .ensures) (c .before .before .before .before .before .before .before .before .before .before .before .before .before .before .sum-of .ensures)
+          (c .before .before .before .before .before .before .before .before .before .before .before .put-bytes .ensures) (c .before .before .before .before .before .before .before .put-bytes2 .ensures) (c .before .before .put-bytes3 .ensures),
+    )
 
 pub write-spec : {M : Type 1} → statement M
 write-spec =

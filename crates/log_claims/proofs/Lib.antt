@@ -1,0 +1,8 @@
+-- What is shown of records and of salvage.
+pub mod Local
+pub mod ReadBack
+pub mod Walks
+pub mod Choice
+pub mod Copies
+pub mod Parts
+pub mod Examples

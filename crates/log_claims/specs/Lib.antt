@@ -1,0 +1,3 @@
+-- The listing of a log, and what is claimed of it. Definitions only.
+pub mod Listing
+pub mod Claims
