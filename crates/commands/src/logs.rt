@@ -54,12 +54,13 @@ fn put_refused(out: &mut [u8], r: Refused) -> usize {
     put_decimal(out, p, log_records::number(r))
 }
 
+// The record that stands at the front of the lent bytes.
 fn put_record_of(out: &mut [u8], record: &[u8; 4096], n: usize) -> usize {
     let p = put_bytes(out, 0, b"ok ");
     put_hexes(out, p, record, 0, n)
 }
 
-// A record of a kind and a payload, in lent bytes of which there are no more than a buffer has.
+// A record of a kind and a payload, in lent bytes of which there are no more than the buffer has.
 pub fn logput(out: &mut [u8], values: Values, bytes: &[u8]) -> usize {
     let mut area = io::buffer();
     let kind = number_at(values, 0);
@@ -91,7 +92,7 @@ pub fn logread(out: &mut [u8], values: Values, bytes: &[u8]) -> usize {
     }
 }
 
-// What parts a stretch from the one before it, which the first has not.
+// What parts a stretch from the one before it; the first has none.
 fn put_parting(out: &mut [u8], at: usize, start: usize) -> usize {
     if start == 0 {
         return at;
@@ -99,6 +100,7 @@ fn put_parting(out: &mut [u8], at: usize, start: usize) -> usize {
     put_byte(out, at, 59)
 }
 
+// A stretch: its word, where it begins and how long it is.
 fn put_words(out: &mut [u8], at: usize, word: &[u8], start: usize, n: usize) -> usize {
     let p1 = put_parting(out, at, start);
     let p2 = put_bytes(out, p1, word);
@@ -107,7 +109,6 @@ fn put_words(out: &mut [u8], at: usize, word: &[u8], start: usize, n: usize) -> 
     put_decimal(out, p4, n as u64)
 }
 
-// A stretch in words.
 fn put_listed(out: &mut [u8], at: usize, stretch: Stretch) -> usize {
     match stretch {
         Stretch::Skipped(start, n) => put_words(out, at, b"skipped ", start, n),
@@ -124,6 +125,7 @@ fn put_kept(out: &mut [u8], at: usize, log: &[u8], stretch: Stretch) -> usize {
     }
 }
 
+// A stretch in words, or its bytes where it is kept.
 fn put_stretch(out: &mut [u8], at: usize, log: &[u8], stretch: Stretch, listed: bool) -> usize {
     if listed {
         return put_listed(out, at, stretch);

@@ -80,7 +80,7 @@ fn ends_word(byte: u8) -> bool {
 }
 
 // Before the first byte of a word. As bytes it is bad from the start where none are wanted, so that it
-// leaves those of the word before it.
+// leaves those of a word before it.
 pub fn no_word(input: Input, wanted: bool) -> Word {
     let none = text::no_digits();
     let bytes = begin_bytes(wanted);
