@@ -27,12 +27,13 @@ fn serve_all(
     output: &mut [f64],
     work: &mut [f64],
     table: &mut [f64],
+    bytes: &mut [u8],
 ) {
     let mut s = begin();
     let mut going = true;
     let mut turns = u64::MAX;
     while turns > 0 && going {
-        s = serve(s, buf, out, input, output, work, table);
+        s = serve(s, buf, out, input, output, work, table, bytes);
         going = written(out, s.end);
         turns -= 1;
     }
@@ -53,6 +54,7 @@ fn main() {
     let mut output = [0.0; 131072];
     let mut work = [0.0; 131072];
     let mut table = [0.0; 262144];
+    let mut bytes = [0; 131072];
     serve_all(
         &mut buf,
         &mut out,
@@ -60,5 +62,6 @@ fn main() {
         &mut output,
         &mut work,
         &mut table,
+        &mut bytes,
     );
 }

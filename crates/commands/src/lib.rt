@@ -2,6 +2,7 @@
 // the table that are kept, and the answer.
 mod answer;
 mod leaves;
+mod logs;
 mod record;
 mod said;
 mod shown;
@@ -71,15 +72,14 @@ fn run_record(command: Command, kept: Kept, values: Values) -> Change {
 // Runs a command on what is kept, of which `work` and `table` hold the samples. The samples that it shows
 // are at the front of `output`.
 fn run(
-    line: Line,
+    command: Command,
     kept: Kept,
+    values: Values,
     input: &[f64],
     output: &mut [f64],
     work: &mut [f64],
     table: &mut [f64],
 ) -> Change {
-    let values = line.values;
-    let command = command_in(line);
     match command {
         Command::New => record::new(kept, record::made_poly(values), work),
         Command::NewSinc => record::new(kept, record::made_sinc(values), work),
@@ -98,7 +98,45 @@ fn run(
     }
 }
 
-// Reads a line, runs it, and puts its answer at the start of `out`.
+// The answer to a line, at the start of the buffer. The commands on the pass log put theirs themselves, and
+// nothing was run for them.
+fn put(
+    out: &mut [u8],
+    command: Command,
+    values: Values,
+    bytes: &[u8],
+    said: Said,
+    area: &[f64],
+) -> usize {
+    match command {
+        Command::LogPut => logs::logput(out, values, bytes),
+        Command::LogRead => logs::logread(out, values, bytes),
+        Command::Salvage => logs::salvage(out, values, bytes),
+        _ => put_answer(out, said, area),
+    }
+}
+
+// Runs a line, and puts its answer.
+fn answered(
+    line: Line,
+    before: Kept,
+    out: &mut [u8],
+    input: &[f64],
+    output: &mut [f64],
+    work: &mut [f64],
+    table: &mut [f64],
+    bytes: &[u8],
+) -> Served {
+    let values = line.values;
+    let command = command_in(line);
+    let change = run(command, before, values, input, output, work, table);
+    let end = put(out, command, values, bytes, change.said, output);
+    let kept = change.kept;
+    let input = line.input;
+    Served { kept, input, end }
+}
+
+// Reads a line, runs it, and puts its answer at the start of `out`. `bytes` are those of the line.
 pub fn serve(
     before: Served,
     buf: &mut [u8],
@@ -107,15 +145,8 @@ pub fn serve(
     output: &mut [f64],
     work: &mut [f64],
     table: &mut [f64],
+    bytes: &mut [u8],
 ) -> Served {
-    let line = read_line(before.input, buf, input, output);
-    let change = run(line, before.kept, input, output, work, table);
-    let end = put_answer(out, change.said, output);
-    let kept = change.kept;
-    let then = line.input;
-    Served {
-        kept,
-        input: then,
-        end,
-    }
+    let line = read_line(before.input, buf, input, output, bytes);
+    answered(line, before.kept, out, input, output, work, table, bytes)
 }

@@ -56,6 +56,7 @@ fn replay(
     output: &mut [f64],
     work: &mut [f64],
     table: &mut [f64],
+    bytes: &mut [u8],
 ) -> Tally {
     let mut r = Replayed {
         served: begin(),
@@ -65,7 +66,7 @@ fn replay(
     let mut going = true;
     let mut turns = u64::MAX;
     while turns > 0 && going {
-        let served = serve(r.served, buf, out, input, output, work, table);
+        let served = serve(r.served, buf, out, input, output, work, table, bytes);
         r = checked(served, r.tally, buf, out);
         going = r.going;
         turns -= 1;
@@ -81,6 +82,7 @@ fn main() {
     let mut output = [0.0; 131072];
     let mut work = [0.0; 131072];
     let mut table = [0.0; 262144];
+    let mut bytes = [0; 131072];
     print(replay(
         &mut buf,
         &mut out,
@@ -88,5 +90,6 @@ fn main() {
         &mut output,
         &mut work,
         &mut table,
+        &mut bytes,
     ));
 }

@@ -1,5 +1,6 @@
-// The call script's lines (docs/CALLS.md), read from standard input: the command, and the numbers and
-// areas of its words.
+// The call script's lines (docs/CALLS.md), read from standard input: the command, and the numbers, areas
+// and bytes of its words.
+mod bytes;
 pub mod line;
 mod names;
 pub mod reader;

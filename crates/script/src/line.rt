@@ -1,6 +1,7 @@
 // One line of the call script: its command, and the numbers of its other words.
 use crate::reader::Input;
 use crate::reader::Word;
+use crate::reader::no_word;
 use crate::reader::read_word;
 use crate::values::Values;
 use crate::words::Command;
@@ -61,12 +62,20 @@ fn with(line: Line, word: Word) -> Line {
 
 // One word more; the samples of a block's output go to an area of their own. The other area takes what is
 // too long for one.
-fn read_next(line: Line, buf: &mut [u8], input: &mut [f64], output: &mut [f64]) -> Line {
+fn read_next(
+    line: Line,
+    buf: &mut [u8],
+    input: &mut [f64],
+    output: &mut [f64],
+    bytes: &mut [u8],
+) -> Line {
     let from = line.input;
-    if line.kinds % 16 == 9 {
-        return with(line, read_word(buf, output, input, from));
+    let kind = line.kinds % 16;
+    let word = no_word(from, kind == 14);
+    if kind == 9 {
+        return with(line, read_word(buf, output, input, bytes, word));
     }
-    with(line, read_word(buf, input, output, from))
+    with(line, read_word(buf, input, output, bytes, word))
 }
 
 // The line after its first word. It is none where that is empty and nothing can follow.
@@ -86,12 +95,18 @@ fn begun(word: Word) -> Line {
 }
 
 // The next line, read to its end: a last line without a newline is one too.
-pub fn read_line(before: Input, buf: &mut [u8], input: &mut [f64], output: &mut [f64]) -> Line {
-    let mut line = begun(read_word(buf, input, output, before));
+pub fn read_line(
+    before: Input,
+    buf: &mut [u8],
+    input: &mut [f64],
+    output: &mut [f64],
+    bytes: &mut [u8],
+) -> Line {
+    let mut line = begun(read_word(buf, input, output, bytes, no_word(before, false)));
     let mut more = line.more;
     let mut turns = u64::MAX;
     while turns > 0 && more {
-        line = read_next(line, buf, input, output);
+        line = read_next(line, buf, input, output, bytes);
         more = line.more;
         turns -= 1;
     }

@@ -1,4 +1,7 @@
 // Standard input, byte by byte, through a buffer that the caller lends; and its words.
+use crate::bytes::Bytes;
+use crate::bytes::begin_bytes;
+use crate::bytes::bytes_step;
 use crate::names::name_step;
 use text::Area;
 use text::Run;
@@ -21,6 +24,7 @@ pub struct Word {
     pub bits: Run,
     pub area: Area,
     pub first: usize,
+    pub bytes: Bytes,
 }
 
 pub fn start() -> Input {
@@ -75,8 +79,11 @@ fn ends_word(byte: u8) -> bool {
     (byte == 32) | (byte == 58) | (byte == 10)
 }
 
-fn no_word(input: Input) -> Word {
+// Before the first byte of a word. As bytes it is bad from the start where none are wanted, so that it
+// leaves those of a word before it.
+pub fn no_word(input: Input, wanted: bool) -> Word {
     let none = text::no_digits();
+    let bytes = begin_bytes(wanted);
     Word {
         input,
         name: 1,
@@ -84,6 +91,7 @@ fn no_word(input: Input) -> Word {
         bits: none,
         area: Area::Start,
         first: 0,
+        bytes,
     }
 }
 
@@ -123,16 +131,24 @@ fn area_after(read: Area, begins: bool) -> Area {
 }
 
 // One byte more of a word.
-fn word_step(area: &mut [f64], next: &mut [f64], word: Word, input: Input) -> Word {
+fn word_step(
+    area: &mut [f64],
+    next: &mut [f64],
+    bytes: &mut [u8],
+    word: Word,
+    input: Input,
+) -> Word {
     let byte = input.byte;
     let whole = word.whole;
     let bits = word.bits;
     let read = word.area;
+    let hexes = word.bytes;
     let whole_then = text::decimal_step(whole, byte);
     let bits_then = text::hex_step(bits, byte);
     let read_then = area_step(area, next, word.first, read, byte);
     let first = first_after(area, word.first, read_then);
     let area_then = area_after(read_then, first > word.first);
+    let bytes_then = bytes_step(bytes, hexes, byte);
     Word {
         input,
         name: name_step(word.name, byte),
@@ -140,11 +156,18 @@ fn word_step(area: &mut [f64], next: &mut [f64], word: Word, input: Input) -> Wo
         bits: bits_then,
         area: area_then,
         first,
+        bytes: bytes_then,
     }
 }
 
 // One byte more, which may end the word.
-fn word_next(buf: &mut [u8], area: &mut [f64], next: &mut [f64], word: Word) -> Word {
+fn word_next(
+    buf: &mut [u8],
+    area: &mut [f64],
+    next: &mut [f64],
+    bytes: &mut [u8],
+    word: Word,
+) -> Word {
     let before = word.input;
     let input = read_byte(buf, before);
     if ends_word(input.byte) {
@@ -152,7 +175,7 @@ fn word_next(buf: &mut [u8], area: &mut [f64], next: &mut [f64], word: Word) -> 
         then.input = input;
         return then;
     }
-    word_step(area, next, word, input)
+    word_step(area, next, bytes, word, input)
 }
 
 fn is_going(word: Word) -> bool {
@@ -161,12 +184,18 @@ fn is_going(word: Word) -> bool {
 }
 
 // Nothing says that a word ends, so the turns are counted down from a number that no run uses up.
-pub fn read_word(buf: &mut [u8], area: &mut [f64], next: &mut [f64], input: Input) -> Word {
-    let mut word = no_word(input);
+pub fn read_word(
+    buf: &mut [u8],
+    area: &mut [f64],
+    next: &mut [f64],
+    bytes: &mut [u8],
+    begun: Word,
+) -> Word {
+    let mut word = begun;
     let mut going = true;
     let mut turns = u64::MAX;
     while turns > 0 && going {
-        word = word_next(buf, area, next, word);
+        word = word_next(buf, area, next, bytes, word);
         going = is_going(word);
         turns -= 1;
     }

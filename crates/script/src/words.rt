@@ -1,4 +1,5 @@
 // The words of the call script: which commands there are, and what each takes.
+use crate::bytes::bytes_done;
 use crate::reader::Word;
 use text::Area;
 use text::Parsed;
@@ -31,6 +32,9 @@ pub enum Command {
     Sine,
     Window,
     Sincs,
+    LogPut,
+    LogRead,
+    Salvage,
     // A line that can't be read.
     Unknown,
     // There is no line any more.
@@ -67,6 +71,9 @@ pub fn command_of(name: u64) -> Command {
         0x1_73696e65 => Command::Sine,
         0x1_77696e646f77 => Command::Window,
         0x1_73696e6373 => Command::Sincs,
+        0x1_6c6f67707574 => Command::LogPut,
+        0x1_6c6f6772656164 => Command::LogRead,
+        0x1_73616c76616765 => Command::Salvage,
         _ => Command::Unknown,
     }
 }
@@ -75,7 +82,7 @@ pub fn command_of(name: u64) -> Command {
 // 1 the 16 digits of a float; 2 a whole number; 3 L, which is 1, 2, 4, 6 or 8; 4 `in` or `out`;
 // 5 `0` or `1`; 6 a number of grid points, 1 to 4; 7 a window; 8 an area; 9 the output of a block,
 // an area that is kept apart; 10 a blend; 11 L, or the `s` of a sinc and a colon; 12 a table, an area that
-// may be as long as two; 13 a whole number and a colon. Behind the last word stands 0.
+// may be as long as two; 13 a whole number and a colon; 14 bytes. Behind the last word stands 0.
 pub fn kinds_of(name: u64) -> u64 {
     match name {
         // new r m L chunk channels in|out
@@ -118,6 +125,12 @@ pub fn kinds_of(name: u64) -> u64 {
         0x1_73696e65 => 1,
         // sincs points factor cutoff window
         0x1_73696e6373 => 0x7122,
+        // logput kind BYTES room
+        0x1_6c6f67707574 => 0x2e2,
+        // logread at BYTES
+        0x1_6c6f6772656164 => 0xe2,
+        // salvage BYTES
+        0x1_73616c76616765 => 14,
         _ => 0,
     }
 }
@@ -219,11 +232,13 @@ fn value_before(kind: u64, word: Word) -> Parsed {
     Parsed::Bad
 }
 
-// The number of a word as its kind reads it: of an area how many samples it has, of the `s` of a sinc 0.
+// The number of a word as its kind reads it: of an area how many samples it has, of bytes how many there
+// are, of the `s` of a sinc 0.
 pub fn value_of(kind: u64, word: Word) -> Parsed {
     let whole = word.whole;
     let bits = word.bits;
     let area = word.area;
+    let bytes = word.bytes;
     if has_colon(word) {
         return value_before(kind, word);
     }
@@ -233,6 +248,7 @@ pub fn value_of(kind: u64, word: Word) -> Parsed {
         3 | 11 => counted(3, text::decimal_done(whole)),
         4 | 5 | 7 | 10 => named(kind, word.name),
         8 | 9 | 12 => samples_in(kind, word.first, area),
+        14 => bytes_done(bytes),
         _ => Parsed::Bad,
     }
 }

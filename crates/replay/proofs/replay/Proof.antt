@@ -8,11 +8,11 @@ use Rattle.replay.proofs.replay.Statement.{statement}
 use Rattle.replay.proofs.replay.Tie as tie
 
 abbrev Inv-loop : tie.InvT-loop
-Inv-loop buf₀ out₀ input₀ output₀ work₀ table₀ r₀ going₀ turns₀ buf out input output work table r going turns =
-    (length buf ≡ length buf₀) × (length out ≡ length out₀) × (length input ≡ length input₀) × (length output ≡ length output₀) × (length work ≡ length work₀) × (length table ≡ length table₀)
+Inv-loop buf₀ out₀ input₀ output₀ work₀ table₀ bytes₀ r₀ going₀ turns₀ buf out input output work table bytes r going turns =
+    (length buf ≡ length buf₀) × (length out ≡ length out₀) × (length input ≡ length input₀) × (length output ≡ length output₀) × (length work ≡ length work₀) × (length table ≡ length table₀) × (length bytes ≡ length bytes₀)
 
 abbrev μ-loop : tie.MeasureT-loop
-μ-loop buf₀ out₀ input₀ output₀ work₀ table₀ r₀ going₀ turns₀ buf out input output work table r going turns = turns
+μ-loop buf₀ out₀ input₀ output₀ work₀ table₀ bytes₀ r₀ going₀ turns₀ buf out input output work table bytes r going turns = turns
 
 begin-requires : tie.Need-begin-requires Inv-loop μ-loop
 begin-requires c κs = search needs
@@ -30,13 +30,13 @@ checked-requires : tie.Need-checked-requires Inv-loop μ-loop
 checked-requires c κs = search needs
 
 sub-turns : tie.Need-sub-turns Inv-loop μ-loop
-sub-turns c = omega (arith, c .before .before .before .before .before .before .before .before .before .before .before .before .before .before .before .before .before .before .before .before .before .before .before .before .before .loop-test .taken)
+sub-turns c = omega (arith, c .before .before .before .before .before .before .before .before .before .before .before .before .before .before .before .before .before .before .before .before .before .before .before .before .before .before .before .before .loop-test .taken)
 
 loop-less : tie.Need-loop-less Inv-loop μ-loop
-loop-less c = omega (arith, c .before .before .before .before .before .before .before .before .before .before .before .before .before .before .before .before .before .before .before .before .before .before .before .before .before .loop-test .taken)
+loop-less c = omega (arith, c .before .before .before .before .before .before .before .before .before .before .before .before .before .before .before .before .before .before .before .before .before .before .before .before .before .before .before .before .loop-test .taken)
 
 loop-again : tie.Need-loop-again Inv-loop μ-loop
-loop-again c = omega (arith, c .before .before .before .before .before .before .before .before .before .before .before .before .before .before .before .before .before .before .before .before .before .before .before .before .before .before .loop .inv)
+loop-again c = omega (arith, c .before .before .before .before .before .before .before .before .before .before .before .before .before .before .before .before .before .before .before .before .before .before .before .before .before .before .before .before .before .loop .inv)
 
 same-length : tie.Need-same-length Inv-loop μ-loop
 same-length c = search needs
@@ -55,6 +55,9 @@ same-length-5 c = search needs
 
 same-length-6 : tie.Need-same-length-6 Inv-loop μ-loop
 same-length-6 c = search needs
+
+same-length-7 : tie.Need-same-length-7 Inv-loop μ-loop
+same-length-7 c = search needs
 
 returns : tie.Need-returns Inv-loop μ-loop
 returns c = search needs
@@ -79,4 +82,5 @@ replay-spec =
     same-length-4
     same-length-5
     same-length-6
+    same-length-7
     returns)

@@ -6,11 +6,14 @@ use Rattle.script.proofs.line.read_line.Statement.{statement}
 use Rattle.script.proofs.line.read_line.Tie as tie
 
 abbrev Inv-loop : tie.InvT-loop
-Inv-loop buf₀ input₀ output₀ line₀ more₀ turns₀ buf input output line more turns =
-    (length buf ≡ length buf₀) × (length input ≡ length input₀) × (length output ≡ length output₀)
+Inv-loop buf₀ input₀ output₀ bytes₀ line₀ more₀ turns₀ buf input output bytes line more turns =
+    (length buf ≡ length buf₀) × (length input ≡ length input₀) × (length output ≡ length output₀) × (length bytes ≡ length bytes₀)
 
 abbrev μ-loop : tie.MeasureT-loop
-μ-loop buf₀ input₀ output₀ line₀ more₀ turns₀ buf input output line more turns = turns
+μ-loop buf₀ input₀ output₀ bytes₀ line₀ more₀ turns₀ buf input output bytes line more turns = turns
+
+no-word-requires : tie.Need-no-word-requires Inv-loop μ-loop
+no-word-requires c κs = search needs
 
 read-word-requires : tie.Need-read-word-requires Inv-loop μ-loop
 read-word-requires c κs = search needs
@@ -42,17 +45,23 @@ same-length-2 c = search needs
 same-length-3 : tie.Need-same-length-3 Inv-loop μ-loop
 same-length-3 c = search needs
 
-returns : tie.Need-returns Inv-loop μ-loop
-returns c = search needs
-
 same-length-4 : tie.Need-same-length-4 Inv-loop μ-loop
 same-length-4 c = search needs
+
+returns : tie.Need-returns Inv-loop μ-loop
+returns c = search needs
 
 same-length-5 : tie.Need-same-length-5 Inv-loop μ-loop
 same-length-5 c = search needs
 
 same-length-6 : tie.Need-same-length-6 Inv-loop μ-loop
 same-length-6 c = search needs
+
+same-length-7 : tie.Need-same-length-7 Inv-loop μ-loop
+same-length-7 c = search needs
+
+same-length-8 : tie.Need-same-length-8 Inv-loop μ-loop
+same-length-8 c = search needs
 
 returns-2 : tie.Need-returns-2 Inv-loop μ-loop
 returns-2 c = search needs
@@ -63,6 +72,7 @@ read-line-spec =
     (tie.spec
     Inv-loop
     μ-loop
+    no-word-requires
     read-word-requires
     begun-requires
     loop-holds
@@ -73,8 +83,10 @@ read-line-spec =
     same-length
     same-length-2
     same-length-3
-    returns
     same-length-4
+    returns
     same-length-5
     same-length-6
+    same-length-7
+    same-length-8
     returns-2)

@@ -6,14 +6,11 @@ use Rattle.script.proofs.reader.read_word.Statement.{statement}
 use Rattle.script.proofs.reader.read_word.Tie as tie
 
 abbrev Inv-loop : tie.InvT-loop
-Inv-loop buf₀ area₀ next₀ word₀ going₀ turns₀ buf area next word going turns =
-    (length buf ≡ length buf₀) × (length area ≡ length area₀) × (length next ≡ length next₀)
+Inv-loop buf₀ area₀ next₀ bytes₀ word₀ going₀ turns₀ buf area next bytes word going turns =
+    (length buf ≡ length buf₀) × (length area ≡ length area₀) × (length next ≡ length next₀) × (length bytes ≡ length bytes₀)
 
 abbrev μ-loop : tie.MeasureT-loop
-μ-loop buf₀ area₀ next₀ word₀ going₀ turns₀ buf area next word going turns = turns
-
-no-word-requires : tie.Need-no-word-requires Inv-loop μ-loop
-no-word-requires c κs = search needs
+μ-loop buf₀ area₀ next₀ bytes₀ word₀ going₀ turns₀ buf area next bytes word going turns = turns
 
 loop-holds : tie.Need-loop-holds Inv-loop μ-loop
 loop-holds c = search needs
@@ -42,17 +39,23 @@ same-length-2 c = search needs
 same-length-3 : tie.Need-same-length-3 Inv-loop μ-loop
 same-length-3 c = search needs
 
-returns : tie.Need-returns Inv-loop μ-loop
-returns c = search needs
-
 same-length-4 : tie.Need-same-length-4 Inv-loop μ-loop
 same-length-4 c = search needs
+
+returns : tie.Need-returns Inv-loop μ-loop
+returns c = search needs
 
 same-length-5 : tie.Need-same-length-5 Inv-loop μ-loop
 same-length-5 c = search needs
 
 same-length-6 : tie.Need-same-length-6 Inv-loop μ-loop
 same-length-6 c = search needs
+
+same-length-7 : tie.Need-same-length-7 Inv-loop μ-loop
+same-length-7 c = search needs
+
+same-length-8 : tie.Need-same-length-8 Inv-loop μ-loop
+same-length-8 c = search needs
 
 returns-2 : tie.Need-returns-2 Inv-loop μ-loop
 returns-2 c = search needs
@@ -63,7 +66,6 @@ read-word-spec =
     (tie.spec
     Inv-loop
     μ-loop
-    no-word-requires
     loop-holds
     word-next-requires
     is-going-requires
@@ -73,8 +75,10 @@ read-word-spec =
     same-length
     same-length-2
     same-length-3
-    returns
     same-length-4
+    returns
     same-length-5
     same-length-6
+    same-length-7
+    same-length-8
     returns-2)
