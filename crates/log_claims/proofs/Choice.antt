@@ -15,7 +15,7 @@ use Rattle.log_claims.proofs.Local.{more-agrees}
 use Rattle.log_salvage.specs.declared.Stretch.{Stretch}
 use Rattle.log_salvage.specs.declared.Stretch.the-variants.{Skipped, Kept, End}
 use Rattle.log_claims.specs.Listing.{listing}
-use Rattle.log_claims.specs.Claims.{Listed, IsKept, IsSkipped, Walk, Good, AllGood, joined, keptAll}
+use Rattle.log_claims.specs.Claims.{Listed, Cover, IsKept, IsSkipped, Walk, Good, AllGood, joined, keptAll}
 use Rattle.log_claims.proofs.Walks.{listing-walks, kept-length}
 
 -- ---- two stretches that are the same
@@ -66,6 +66,24 @@ walk-one log at (Skipped p n ∷ l) (Skipped q k ∷ m) a b =
     ap (λ (i : ℕ). Skipped i n ∷ l) place ∙ ap (λ (i : ℕ). Skipped q i ∷ l) same ∙ ap (λ (t : List Stretch). Skipped q k ∷ t) (walk-one log (at + n) l m (a .1 .1) (subst (λ (i : ℕ). Walk log (at + i) m) (sym same) (b .1 .1)))
 walk-one log at (Skipped p n ∷ l) (End ∷ m) a b = absurd b
 
+-- ---- what a walk lists as kept is a record
+abbrev longOf : Stretch → ℕ
+longOf (Skipped at n) = n
+longOf (Kept at n) = n
+longOf End = 0
+
+pub listed-is : (log : List ℕ) (at : ℕ) (l : List Stretch) (p n : ℕ) → Walk log at l → Listed (Kept p n) l → IsKept log p n
+unfolding Walk Listed
+listed-is log at [] p n w h = absurd h
+listed-is log at (Kept q k ∷ l) p n w (inl e) =
+    let here : at ≡ p = sym (ap startOf e ∙ w .0) in
+    let same : k ≡ n = sym (ap longOf e) in
+    subst (λ (i : ℕ). IsKept log i n) here (subst (λ (i : ℕ). IsKept log at i) same (w .1 .0))
+listed-is log at (Kept q k ∷ l) p n w (inr h) = listed-is log (at + k) l p n (w .1 .1) h
+listed-is log at (Skipped q k ∷ l) p n w (inl e) = absurd (true≢false (ap kept? e))
+listed-is log at (Skipped q k ∷ l) p n w (inr h) = listed-is log (at + k) l p n (w .1 .1) h
+listed-is log at (End ∷ l) p n w h = absurd w
+
 -- ---- no two kept records share a byte
 later : (log : List ℕ) (at : ℕ) (l : List Stretch) (p n : ℕ) → Walk log at l → Listed (Kept p n) l → at ≤ p
 unfolding Walk Listed
@@ -105,17 +123,31 @@ module _ (log : List ℕ) (p : ℕ) (y : agrees (drop p log) ≡ true) where
   kept-here : (at q n : ℕ) → at ≡ p → q ≡ at → n ≡ recordLength (drop at log) → wanted ≡ Kept q n
   kept-here at q n e f g = ap (λ (i : ℕ). Kept i (recordLength (drop p log))) (sym (f ∙ e)) ∙ ap (Kept q) (sym (g ∙ ap (λ (i : ℕ). recordLength (drop i log)) e))
 
-  -- a kept record at the walk's place is this one, or ends before it
-  past-kept : (at q n : ℕ) (l : List Stretch) → at ≤ p → q ≡ at → IsKept log at n → (q < p → p < q + n → ⊥) → (at + n ≤ p → Listed wanted l) → (wanted ≡ Kept q n) ⊎ Listed wanted l
-  past-kept at q n l h e k free rest = go (ltb at p) refl
-    where
-      over : (t : Bool) → ltb p (at + n) ≡ t → at < p → Listed wanted l
-      over true f a = absurd (free (omega arith) (omega (arith, ltb-true p (at + n) f)))
-      over false f a = rest (ltb-false p (at + n) f)
+  -- what holds of the rest of a listing holds of it whole
+  behind : (s : Stretch) (l : List Stretch) → Listed wanted l ⊎ Cover l p → Listed wanted (s ∷ l) ⊎ Cover (s ∷ l) p
+  unfolding Listed
+  behind s l (inl h) = inl (inr h)
+  behind s l (inr c) = inr (record { start = c .start; long = c .long; kept = inr (c .kept); before = c .before; over = c .over })
 
-      go : (t : Bool) → ltb at p ≡ t → (wanted ≡ Kept q n) ⊎ Listed wanted l
-      go true f = inr (over (ltb p (at + n)) refl (ltb-true at p f))
-      go false f = inl (kept-here at q n (omega (arith, ltb-false at p f)) e (k .long))
+  first-kept : (s : Stretch) (l : List Stretch) → wanted ≡ s → Listed wanted (s ∷ l)
+  unfolding Listed
+  first-kept s l e = inl e
+
+  first-covers : (q n : ℕ) (l : List Stretch) → q < p → p < q + n → Cover (Kept q n ∷ l) p
+  unfolding Listed
+  first-covers q n l a b = record { start = q; long = n; kept = inl refl; before = a; over = b }
+
+  -- a kept record at the walk's place is this one, or covers its start, or ends before it
+  past-kept : (at q n : ℕ) (l : List Stretch) → at ≤ p → q ≡ at → IsKept log at n → (at + n ≤ p → Listed wanted l ⊎ Cover l p) → Listed wanted (Kept q n ∷ l) ⊎ Cover (Kept q n ∷ l) p
+  past-kept at q n l h e k rest = go (ltb at p) refl
+    where
+      over : (t : Bool) → ltb p (at + n) ≡ t → at < p → Listed wanted (Kept q n ∷ l) ⊎ Cover (Kept q n ∷ l) p
+      over true f a = inr (first-covers q n l (omega arith) (omega (arith, ltb-true p (at + n) f)))
+      over false f a = behind (Kept q n) l (rest (ltb-false p (at + n) f))
+
+      go : (t : Bool) → ltb at p ≡ t → Listed wanted (Kept q n ∷ l) ⊎ Cover (Kept q n ∷ l) p
+      go true f = over (ltb p (at + n)) refl (ltb-true at p f)
+      go false f = inl (first-kept (Kept q n) l (kept-here at q n (omega (arith, ltb-false at p f)) e (k .long)))
 
   -- and a stretch skipped ends before it
   past-skipped : (at n : ℕ) → at ≤ p → IsSkipped log at n → at + n ≤ p
@@ -127,18 +159,28 @@ module _ (log : List ℕ) (p : ℕ) (y : agrees (drop p log) ≡ true) where
           absurd (true≢false (sym y ∙ sym (ap (λ (i : ℕ). agrees (drop i log)) here) ∙ k .none (p - at) (omega (arith, ltb-true p (at + n) f))))
       go false f = ltb-false p (at + n) f
 
-  free-kept : (at : ℕ) (l : List Stretch) → Walk log at l → at ≤ p → ((q m : ℕ) → Listed (Kept q m) l → q < p → p < q + m → ⊥) → Listed wanted l
-  unfolding Walk Listed
-  free-kept at [] w h free = absurd (omega (arith, inside))
-  free-kept at (End ∷ l) w h free = absurd w
-  free-kept at (Kept q n ∷ l) w h free =
-      past-kept at q n l h (w .0) (w .1 .0) (λ a b. free q n (inl refl) a b) (λ k. free-kept (at + n) l (w .1 .1) k (λ r m f. free r m (inr f)))
-  free-kept at (Skipped q n ∷ l) w h free = inr (free-kept (at + n) l (w .1 .1) (past-skipped at n h (w .1 .0)) (λ r m f. free r m (inr f)))
+  kept-or-covered : (at : ℕ) (l : List Stretch) → Walk log at l → at ≤ p → Listed wanted l ⊎ Cover l p
+  unfolding Walk
+  kept-or-covered at [] w h = absurd (omega (arith, inside))
+  kept-or-covered at (End ∷ l) w h = absurd w
+  kept-or-covered at (Kept q n ∷ l) w h = past-kept at q n l h (w .0) (w .1 .0) (λ k. kept-or-covered (at + n) l (w .1 .1) k)
+  kept-or-covered at (Skipped q n ∷ l) w h = behind (Skipped q n) l (kept-or-covered (at + n) l (w .1 .1) (past-skipped at n h (w .1 .0)))
+
+  -- a record is kept, or a kept one covers its start
+  pub kept-or : Listed wanted (listing log) ⊎ Cover (listing log) p
+  kept-or = kept-or-covered 0 (listing log) (listing-walks log) (omega arith)
+
+  free-kept : ((q m : ℕ) → Listed (Kept q m) (listing log) → q < p → p < q + m → ⊥) → Listed wanted (listing log)
+  free-kept free = go kept-or
+    where
+      go : Listed wanted (listing log) ⊎ Cover (listing log) p → Listed wanted (listing log)
+      go (inl h) = h
+      go (inr c) = absurd (free (c .start) (c .long) (c .kept) (c .before) (c .over))
 
   -- what salvage promises of a damaged log: "a good record is kept exactly when no kept record begins before it and ends after its start"
   pub kept-exactly : Listed wanted (listing log) ↔ ((q m : ℕ) → Listed (Kept q m) (listing log) → q < p → p < q + m → ⊥)
   kept-exactly =
-      (λ h q m k a b. apart log 0 (listing log) p (recordLength (drop p log)) q m (listing-walks log) h k a b, λ free. free-kept 0 (listing log) (listing-walks log) (omega arith) free)
+      (λ h q m k a b. apart log 0 (listing log) p (recordLength (drop p log)) q m (listing-walks log) h k a b, λ free. free-kept free)
 
 -- where a false record can come from: one that begins within a good record is kept only where that good one is not
 pub false-within : (log : List ℕ) (p q m : ℕ) → Listed (Kept q m) (listing log) → p < q → q < p + recordLength (drop p log) → Listed (Kept p (recordLength (drop p log))) (listing log) → ⊥
@@ -148,7 +190,11 @@ false-within log p q m h a b k = apart log 0 (listing log) q m p (recordLength (
 good-length : (r : List ℕ) → Good r → length r ≡ 7 + twoAt r 3
 good-length r g = g .long ∙ kept-length r (g .agrees-it)
 
-is-kept-good : (log : List ℕ) (at : ℕ) (r rest : List ℕ) → Good r → drop at log ≡ r ++ rest → at ≤ length log → IsKept log at (length r)
+-- behind a part that stands at the front of what is left
+pub past-part : (log : List ℕ) (at : ℕ) (r rest : List ℕ) → drop at log ≡ r ++ rest → drop (at + length r) log ≡ rest
+past-part log at r rest e = sym (drop-drop (length r) at log) ∙ ap (drop (length r)) e ∙ drop-append-seam r rest
+
+pub is-kept-good : (log : List ℕ) (at : ℕ) (r rest : List ℕ) → Good r → drop at log ≡ r ++ rest → at ≤ length log → IsKept log at (length r)
 is-kept-good log at r rest g e h =
     let m = more-agrees r rest (g .agrees-it) in
     let y : agrees (drop at log) ≡ true = ap agrees e ∙ m .0 in
@@ -162,6 +208,6 @@ unfolding AllGood joined keptAll Walk
 all-kept log at [] rest l g e h w = subst (λ (i : ℕ). Walk log i l) (omega arith) w
 all-kept log at (r ∷ rs) rest l g e h w =
     let k = is-kept-good log at r (joined rs ++ rest) (g .0) (e ∙ append-assoc r (joined rs) rest) h in
-    let on : drop (at + length r) log ≡ joined rs ++ rest = sym (drop-drop (length r) at log) ∙ ap (drop (length r)) (e ∙ append-assoc r (joined rs) rest) ∙ drop-append-seam r (joined rs ++ rest) in
+    let on = past-part log at r (joined rs ++ rest) (e ∙ append-assoc r (joined rs) rest) in
     let far : at + length (r ++ joined rs) ≡ at + length r + length (joined rs) = omega (arith, length-append r (joined rs)) in
     (refl, (k, all-kept log (at + length r) rs rest l (g .1) on (k .whole) (subst (λ (i : ℕ). Walk log i l) far w)))

@@ -5,7 +5,7 @@ use mathlib.Core.Path.{_≡_, refl, sym, ap, _∙_, subst}
 use Prim.Native.Nat.{ℕ, _+_, _≤_}
 use native.Mathlib.Omega.{arith}
 use lib.ListN.{length, take, drop, length-append}
-use lib.Seq.{take-append-seam, drop-append-seam, drop-drop, length-take-le}
+use lib.Seq.{take-append-seam, length-take-le}
 use Rattle.log_records.specs.Records.{twoAt, isKind, recordOf}
 use Rattle.log_records.proofs.Places.{stands}
 use Rattle.log_claims.proofs.Local.{alone-agrees}
@@ -15,7 +15,7 @@ use Rattle.log_claims.specs.Listing.{stretchesFrom, listing, copyOf, sal
 use Rattle.log_claims.specs.Claims.{IsKept, Walk, Good, AllGood, joined, keptAll, keptParts}
 use Rattle.log_claims.proofs.ReadBack.{record-agrees, record-length, length-back}
 use Rattle.log_claims.proofs.Walks.{walks, listing-walks, kept-length}
-use Rattle.log_claims.proofs.Choice.{walk-one, all-kept}
+use Rattle.log_claims.proofs.Choice.{walk-one, past-part, all-kept}
 
 -- good records at the front are all kept, whatever stands behind them
 pub front-kept : (rs : List (List ℕ)) (rest : List ℕ) → AllGood rs → listing (joined rs ++ rest) ≡ keptAll 0 rs ++ stretchesFrom (length rest) (joined rs ++ rest) (length (joined rs))
@@ -37,7 +37,7 @@ unfolding joined keptAll copyOf
 copy-all log at [] rest e = refl
 copy-all log at (r ∷ rs) rest e =
     let here : drop at log ≡ r ++ (joined rs ++ rest) = e ∙ append-assoc r (joined rs) rest in
-    let on : drop (at + length r) log ≡ joined rs ++ rest = sym (drop-drop (length r) at log) ∙ ap (drop (length r)) here ∙ drop-append-seam r (joined rs ++ rest) in
+    let on = past-part log at r (joined rs ++ rest) here in
     ap (λ (q : List ℕ). q ++ copyOf log (keptAll (at + length r) rs)) (ap (take (length r)) here ∙ take-append-seam r (joined rs ++ rest))
     ∙ ap (λ (q : List ℕ). r ++ q) (copy-all log (at + length r) rs rest on)
 

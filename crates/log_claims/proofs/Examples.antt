@@ -35,3 +35,8 @@ sound-head = refl
 head-gone : listing (0xD6 ∷ 0x1A ∷ 2 ∷ 5 ∷ 0 ∷ 0xD7 ∷ 0x1A ∷ 2 ∷ 6 ∷ 0 ∷ 0 ∷ 1 ∷ recordOf 4 (1 ∷ 0 ∷ [])) ≡ Skipped 0 5 ∷ Kept 5 13 ∷ Skipped 18 3 ∷ []
 unfolding recordOf total agrees skips stretchAt endOf withRest stretchesFrom
 head-gone = refl
+
+-- a false record within an intact one: that of five stray bytes covers the start of the good record behind them, in whose payload another stands; the good one is not kept
+within-intact : listing (0xD7 ∷ 0x1A ∷ 4 ∷ 5 ∷ 0 ∷ recordOf 3 (6 ∷ 1 ∷ recordOf 2 [])) ≡ Kept 0 12 ∷ Kept 12 7 ∷ Skipped 19 2 ∷ []
+unfolding recordOf total agrees skips stretchAt endOf withRest stretchesFrom
+within-intact = refl

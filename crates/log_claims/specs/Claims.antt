@@ -15,6 +15,14 @@ unfoldable pub Listed : Stretch → List Stretch → Type 0
 Listed s [] = ⊥
 Listed s (t ∷ rest) = (s ≡ t) ⊎ Listed s rest
 
+-- a record that a listing keeps begins before p and ends after it
+pub record Cover (l : List Stretch) (p : ℕ) : Type 0 where
+  pub start : ℕ
+  pub long : ℕ
+  pub kept : Listed (Kept start long) l
+  pub before : start < p
+  pub over : p < start + long
+
 -- n bytes from `at` on are a record, whole in the log
 pub record IsKept (log : List ℕ) (at n : ℕ) : Type 0 where
   pub stands : agrees (drop at log) ≡ true
