@@ -111,18 +111,19 @@ module _ (f : ℕ) (log : List ℕ) (at : ℕ) where
   unfolding stretchesFrom withRest endOf
   first-none y e = ap after (is-end log at true 0 (sym (none-length (drop at log) y)) at (omega arith) (omega arith) (omega arith))
 
+-- where no record stands and nothing can be skipped, the log is over
+pub at-end : (log : List ℕ) (at : ℕ) → at ≤ length log → agrees (drop at log) ≡ false → skips true (drop at log) ≡ 0 → at ≡ length log
+at-end log at l y e = go (ltb at (length log)) refl
+  where
+    go : (t : Bool) → ltb at (length log) ≡ t → at ≡ length log
+    go true z = absurd (true≢false (sym (stops-record (drop at log) (stops-here true log at e (ltb-true at (length log) z))) ∙ y))
+    go false z = omega (arith, ltb-false at (length log) z)
+
 -- the listing from a place on is a walk, where there are turns enough
 module _ (f : ℕ) (log : List ℕ) (at : ℕ) (l : at ≤ length log) (h : length log ≤ at + suc f) (rest : (to : ℕ) → to ≤ length log → length log ≤ to + f → Walk log to (stretchesFrom f log to)) where
-  at-end : agrees (drop at log) ≡ false → skips true (drop at log) ≡ 0 → at ≡ length log
-  at-end y e = go (ltb at (length log)) refl
-    where
-      go : (t : Bool) → ltb at (length log) ≡ t → at ≡ length log
-      go true z = absurd (true≢false (sym (stops-record (drop at log) (stops-here true log at e (ltb-true at (length log) z))) ∙ y))
-      go false z = omega (arith, ltb-false at (length log) z)
-
   walk-skipped : (k : ℕ) → agrees (drop at log) ≡ false → skips true (drop at log) ≡ k → Walk log at (stretchesFrom (suc f) log at)
   unfolding Walk
-  walk-skipped zero y e = subst (Walk log at) (first-none f log at y e) (at-end y e)
+  walk-skipped zero y e = subst (Walk log at) (first-none f log at y e) (at-end log at l y e)
   walk-skipped (suc k) y e =
       let p = passes true (suc k) log at e in
       subst (Walk log at) (first-skipped f log at (suc k) y e (omega arith))

@@ -1,10 +1,9 @@
 -- What is claimed of salvage's listing. Definitions only.
-use mathlib.Core.Bool.{true, false, cond}
+use mathlib.Core.Bool.{true, false}
 use mathlib.Core.List.{List, [], _∷_, _++_}
 use mathlib.Core.Logic.{_⊎_}
 use mathlib.Core.Path.{_≡_}
-use Prim.Native.Nat.{ℕ, _+_, _-_, _≤_, _<_}
-use lib.Dec.{ltb}
+use Prim.Native.Nat.{ℕ, _+_, _≤_, _<_}
 use lib.ListN.{length, take, drop}
 use Rattle.log_records.specs.Records.{agrees, recordLength}
 use Rattle.log_salvage.specs.declared.Stretch.{Stretch}
@@ -68,11 +67,3 @@ keptParts log [] = []
 keptParts log (Kept at n ∷ rest) = take n (drop at log) ∷ keptParts log rest
 keptParts log (Skipped at n ∷ rest) = keptParts log rest
 keptParts log (End ∷ rest) = keptParts log rest
-
--- no record begins from s up to p
-abbrev pub NoneIn : List ℕ → ℕ → ℕ → Type 0
-NoneIn log s p = (i : ℕ) → s ≤ i → i < p → agrees (drop i log) ≡ false
-
--- a listing with the bytes from s up to p, if any, skipped before it
-abbrev pub pending : ℕ → ℕ → List Stretch → List Stretch
-pending s p l = cond (ltb s p) (Skipped s (p - s) ∷ l) l

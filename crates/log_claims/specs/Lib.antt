@@ -2,3 +2,4 @@
 pub mod Listing
 pub mod Claims
 pub mod Pieces
+pub mod Parts
