@@ -6,7 +6,7 @@ mod name;
 mod taken;
 
 ghost use mathlib.Core.Path.{_≡_};
-ghost use Rattle.file_facts.specs.Same.{oneFile, regular};
+ghost use Rattle.file_facts.specs.Same.{oneFile, sameKept, regular};
 
 pub struct Facts {
     // Whether the system told of the file. Where it did not, the rest is 0.
@@ -41,6 +41,14 @@ pub fn same_file(a: Facts, b: Facts) -> bool
     ensures { λ r. ⌜ r ≡ oneFile a b ⌝ }
 {
     a.known & b.known & (a.device == b.device) & (a.inode == b.inode) & (a.kind != libc::S_IFCHR)
+}
+
+// Whether both are one file that writing changes: no pipe and no socket, which may be read and written.
+pub fn is_same(a: Facts, b: Facts) -> bool
+    ensures { λ r. ⌜ r ≡ sameKept a b ⌝ }
+{
+    let kept = (a.kind == libc::S_IFREG) | (a.kind == libc::S_IFBLK);
+    same_file(a, b) & kept
 }
 
 // Whether it is a regular file.

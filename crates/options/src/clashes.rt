@@ -9,6 +9,7 @@ use crate::options::Options;
 use crate::options::Place;
 use crate::slots::has;
 use file_facts::Facts;
+use file_facts::is_same;
 
 const OUTPUT_NAMES: usize = 1;
 
@@ -27,12 +28,6 @@ const PASSLOG_NAMES: usize = 9;
 const IS_LOG: usize = 10;
 
 const IS_STATUS: usize = 11;
-
-// Whether both are one file that writing changes: no pipe and no socket, which may be read and written.
-fn is_same(a: Facts, b: Facts) -> bool {
-    let kept = (a.kind == libc::S_IFREG) | (a.kind == libc::S_IFBLK);
-    file_facts::same_file(a, b) & kept
-}
 
 fn say_role(k: usize) {
     say_nth(

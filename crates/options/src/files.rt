@@ -24,28 +24,6 @@ pub struct Files {
     pub good: bool,
 }
 
-// Fills the lowest descriptor that is closed, if it is a standard stream; whether it was one.
-fn fill_one() -> bool {
-    let fd = os::open_read(b"/dev/null");
-    if fd >= 2 {
-        libc::close(fd);
-    }
-    if fd == 2 {
-        os::open_update(b"/dev/null");
-    }
-    (fd >= 0) & (fd < 3)
-}
-
-// A standard stream that is closed must not become a file of ours: what is opened next has a descriptor
-// above 2. Such an input is empty, writing to such an output fails, and such a standard error is nowhere.
-pub fn fill_low() {
-    if fill_one() {
-        if fill_one() {
-            fill_one();
-        }
-    }
-}
-
 fn files_of(input: i32, plan: i32, table: i32, input_bytes: u64, good: bool) -> Files {
     Files {
         input,
@@ -139,7 +117,7 @@ fn with_inputs(o: Options, input: i32, plan: i32, table: i32) -> Files {
 // Opens input, plan and table. Where one cannot be opened, or a file that is to be written is another one, that is
 // told, and `good` is false. Tones have none.
 pub fn open_inputs(o: Options) -> Files {
-    fill_low();
+    programs::fill_low();
     if o.has_tones {
         return no_files(true);
     }

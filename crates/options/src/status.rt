@@ -1,6 +1,5 @@
-// The status of a run, in a file: the language gives a program no exit status.
+// The status of a run, in its file.
 use crate::clashes::is_status_taken;
-use crate::files::fill_low;
 use crate::named::Act;
 use crate::named::act_at;
 use crate::options::Options;
@@ -12,15 +11,10 @@ pub fn write_status(o: Options, status: u64) {
     if place.at == 0 {
         return;
     }
-    fill_low();
+    programs::fill_low();
     if is_status_taken(o) {
         return;
     }
     let opened = act_at(Act::Write, place, -1);
-    if opened.fd < 0 {
-        return;
-    }
-    io::print_decimal(opened.fd, status);
-    io::write_all(opened.fd, b"\n");
-    libc::close(opened.fd);
+    programs::put_status(opened.fd, status);
 }

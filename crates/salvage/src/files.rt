@@ -2,6 +2,8 @@
 use crate::listing::say;
 use crate::words::Words;
 use file_facts::Facts;
+use file_facts::is_same;
+use programs::Common;
 
 // The log, and where its records go. `size` is the log's where it is a regular file, else 0. `good` says that
 // both are open.
@@ -19,22 +21,6 @@ fn no_files() -> Files {
         size: 0,
         good: false,
     }
-}
-
-// Fills the lowest descriptor that is closed, if it is a standard stream.
-fn fill_one() {
-    let fd = os::open_read(b"/dev/null");
-    if fd > 2 {
-        libc::close(fd);
-    }
-}
-
-// A standard stream that is closed must not become a file of ours: what is opened next has a descriptor
-// above 2. Such an input is empty, and writing to such an output fails.
-fn fill_low() {
-    fill_one();
-    fill_one();
-    fill_one();
 }
 
 // Says so where a file could not be opened.
@@ -76,12 +62,6 @@ fn facts_in(at: usize) -> Facts {
     file_facts::facts_at(&word[..n])
 }
 
-// Whether both are one file that writing changes: no pipe and no socket, which may be read and written.
-fn is_same(a: Facts, b: Facts) -> bool {
-    let kept = (a.kind == libc::S_IFREG) | (a.kind == libc::S_IFBLK);
-    file_facts::same_file(a, b) & kept
-}
-
 // Whether two words are one name, of a file that may not be there yet.
 fn is_same_name(a: usize, b: usize) -> bool {
     if (a == 0) | (b == 0) {
@@ -95,8 +75,8 @@ fn is_same_name(a: usize, b: usize) -> bool {
 }
 
 // Whether --out names the file of the status too.
-fn is_status(w: Words, out: Facts) -> bool {
-    is_same(out, facts_in(w.status)) | is_same_name(w.out, w.status)
+fn is_status(common: Common, out: Facts) -> bool {
+    is_same(out, facts_in(common.status)) | is_same_name(common.out, common.status)
 }
 
 // Says of a file that --out names what else it is; whether it is that.
@@ -110,15 +90,15 @@ fn is_told(same: bool, what: &[u8]) -> bool {
 }
 
 // Whether --out is another file of the run, before it is opened; it is told.
-fn has_clash(w: Words, log: Facts) -> bool {
-    let out = facts_in(w.out);
+fn has_clash(common: Common, log: Facts) -> bool {
+    let out = facts_in(common.out);
     let output = file_facts::facts_of(libc::STDOUT_FILENO);
     let a = is_told(is_same(out, log), b"the log");
     let b = is_told(
         file_facts::same_file(out, output),
         b"standard output, where the listing goes",
     );
-    let c = is_told(is_status(w, out), b"the file of --status");
+    let c = is_told(is_status(common, out), b"the file of --status");
     a | b | c
 }
 
@@ -132,16 +112,17 @@ fn size_of(log: Facts) -> u64 {
 // Opens the log, and then what is written. Where one cannot be opened, or --out is another file of the run,
 // that is told, and `good` is false.
 pub fn open_files(w: Words) -> Files {
-    fill_low();
+    programs::fill_low();
     let input = open_log(w.file);
     if input < 0 {
         return no_files();
     }
     let log = file_facts::facts_of(input);
-    if has_clash(w, log) {
+    let common = w.common;
+    if has_clash(common, log) {
         return no_files();
     }
-    let output = open_out(w.out);
+    let output = open_out(common.out);
     Files {
         input,
         output,
@@ -152,9 +133,10 @@ pub fn open_files(w: Words) -> Files {
 
 // Whether the file for the status is another file of the run.
 fn is_status_taken(w: Words) -> bool {
-    let status = facts_in(w.status);
+    let common = w.common;
+    let status = facts_in(common.status);
     let a = is_same(status, facts_in(w.file));
-    let b = is_status(w, facts_in(w.out));
+    let b = is_status(common, facts_in(common.out));
     let c = is_same(status, file_facts::facts_of(libc::STDOUT_FILENO));
     a | b | c
 }
@@ -162,17 +144,13 @@ fn is_status_taken(w: Words) -> bool {
 // Writes the status and a line feed into the file that --status names, if one is named and it is no other
 // file of the run.
 pub fn write_status(w: Words, status: u64) {
-    if w.status == 0 {
+    let common = w.common;
+    if common.status == 0 {
         return;
     }
-    fill_low();
+    programs::fill_low();
     if is_status_taken(w) {
         return;
     }
-    let fd = open_out(w.status);
-    if fd >= 0 {
-        io::print_decimal(fd, status);
-        io::write_all(fd, b"\n");
-        libc::close(fd);
-    }
+    programs::put_status(open_out(common.status), status);
 }

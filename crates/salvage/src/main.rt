@@ -43,7 +43,9 @@ twelve bytes are kept, and the last two are skipped.
 
 No file is written before the log is open, and none that is the log, standard
 output or the --status file. Where the log cannot be read to its end, what was
-read of it is taken for the whole, and that is told.
+read of it is taken for the whole, and that is told. Of a disk with blocks that
+cannot be read, make a copy first with a tool that passes over such blocks, and
+salvage the copy.
 ./hazivotra salvage exits with 0 where the log was read to its end and all was
 written, also where stretches were skipped; 1 where a file failed; and 2 where a
 word was bad or missing.
@@ -53,10 +55,11 @@ word was bad or missing.
 
 // What the words ask for, and the status that comes of it.
 fn status_of(w: Words) -> u64 {
-    if !w.good {
+    let common = w.common;
+    if !common.good {
         return 2;
     }
-    if w.help {
+    if common.help {
         return if help() { 0 } else { 1 };
     }
     let f = files::open_files(w);

@@ -68,8 +68,9 @@ fn write_line(w: Words, table: &[f64]) -> bool {
 pub fn keep(w: Words, table: &[f64]) -> bool
     requires { ⌜ now table ≡ sincsTable (w .points) (w .factor) (w .cutoff) (w .window) ⌝ }
 {
+    let common = w.common;
     let mut word = io::buffer();
-    let n = os::arg(w.out, &mut word);
+    let n = os::arg(common.out, &mut word);
     let file = file_facts::facts_at(&word[..n]);
     if file_facts::same_file(file, file_facts::facts_of(libc::STDOUT_FILENO)) {
         io::write_all(
@@ -88,22 +89,18 @@ pub fn keep(w: Words, table: &[f64]) -> bool
     true
 }
 
-// Writes the status and a line feed into the file that --status names, if one is named. A file that holds
+// Writes the status and a line feed into the file that --status names, if one is common. A file that holds
 // more than a status is left as it is: it may be the table.
 pub fn write_status(w: Words, status: u64) {
-    if w.status == 0 {
+    let common = w.common;
+    if common.status == 0 {
         return;
     }
     let mut word = io::buffer();
-    let n = os::arg(w.status, &mut word);
+    let n = os::arg(common.status, &mut word);
     let file = file_facts::facts_at(&word[..n]);
     if file.size > 2 {
         return;
     }
-    let fd = os::open_overwrite(&word[..n]);
-    if fd >= 0 {
-        io::print_decimal(fd, status);
-        io::write_all(fd, b"\n");
-        libc::close(fd);
-    }
+    programs::put_status(os::open_overwrite(&word[..n]), status);
 }

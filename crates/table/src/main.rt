@@ -10,7 +10,7 @@ use words::Words;
 fn help() -> bool {
     io::write_all(
         libc::STDOUT_FILENO,
-        b"table: a table of windowed sincs, built and named.
+        b"table: a table of windowed sincs, built and common.
 
   table POINTS FACTOR CUTOFF WINDOW --out FILE
 
@@ -42,10 +42,11 @@ file), and 2 where a word was bad or missing.
 
 // What the words ask for, and the status that comes of it.
 fn status_of(w: Words) -> u64 {
-    if !w.good {
+    let common = w.common;
+    if !common.good {
         return 2;
     }
-    if w.help {
+    if common.help {
         return if help() { 0 } else { 1 };
     }
     if build::make(w) { 0 } else { 1 }

@@ -2,46 +2,37 @@
 use crate::named::Named;
 use crate::named::window_named;
 use decimals::Number;
+use programs::Common;
 use text::Parsed;
 use windows::WindowFunction;
 
-const OUT: usize = 1;
-
-const STATUS: usize = 2;
-
-const HELP: usize = 3;
-
-// What was read so far: how many of POINTS, FACTOR, CUTOFF and WINDOW, and what they say; the places of the
-// files' names, 0 where none is given; which of --out and --status wants its file's name next, 0 for none.
-// `good` is false once a word was bad.
+// What was read so far: how many of POINTS, FACTOR, CUTOFF and WINDOW, and what they say; and the others.
 pub struct Words {
     pub plain: usize,
     pub points: usize,
     pub factor: usize,
     pub cutoff: f64,
     pub window: WindowFunction,
-    pub out: usize,
-    pub status: usize,
-    pub wants: usize,
-    pub help: bool,
-    pub good: bool,
+    pub common: Common,
 }
 
-// Says what is wrong with a word, up to the mark that opens it.
-fn bad(w: Words, what: &[u8], word: &[u8]) -> Words {
-    io::write_all(libc::STDERR_FILENO, what);
-    io::write_all(libc::STDERR_FILENO, word);
-    io::write_all(libc::STDERR_FILENO, b"'\n");
+fn with_common(w: Words, common: Common) -> Words {
     let mut s = w;
-    s.good = false;
+    s.common = common;
     s
+}
+
+// Says what is wrong with a word.
+fn bad(w: Words, what: &[u8], word: &[u8]) -> Words {
+    let common = w.common;
+    with_common(w, programs::bad(common, b"table", what, word))
 }
 
 fn with_count(w: Words, word: &[u8]) -> Words {
     let Parsed::Number(n) = text::decimal_of(word) else {
         return bad(
             w,
-            b"table: POINTS and FACTOR take a whole number below 2^64, and not `",
+            b": POINTS and FACTOR take a whole number below 2^64, and not `",
             word,
         );
     };
@@ -60,7 +51,7 @@ fn with_cutoff(w: Words, word: &[u8]) -> Words {
     let Number::Value(x) = decimals::number_of(word) else {
         return bad(
             w,
-            b"table: CUTOFF takes a decimal of up to 19 digits (0.9), a quotient of two whole numbers of up to 19 digits (9/10) or 16 hex digits of bits (x3feccccccccccccd), and not `",
+            b": CUTOFF takes a decimal of up to 19 digits (0.9), a quotient of two whole numbers of up to 19 digits (9/10) or 16 hex digits of bits (x3feccccccccccccd), and not `",
             word,
         );
     };
@@ -74,98 +65,39 @@ fn with_window(w: Words, word: &[u8]) -> Words {
     let Named::Window(window) = window_named(word) else {
         return bad(
             w,
-            b"table: WINDOW takes hann, hann2, blackman, blackman2, blackman-harris, blackman-harris2, or h, h2, b, b2, bh, bh2, and not `",
+            b": WINDOW takes hann, hann2, blackman, blackman2, blackman-harris, blackman-harris2, or h, h2, b, b2, bh, bh2, and not `",
             word,
         );
     };
+    let common = w.common;
     Words {
         plain: 4,
         points: w.points,
         factor: w.factor,
         cutoff: w.cutoff,
         window,
-        out: w.out,
-        status: w.status,
-        wants: w.wants,
-        help: w.help,
-        good: w.good,
+        common,
     }
-}
-
-// Whether a word can name a file: one that begins with a `-` is a name of ours, or a slip.
-fn is_file(word: &[u8]) -> bool {
-    if word.len() == 0 {
-        return false;
-    }
-    word[0] != 45
-}
-
-// The file's name that was wanted, at the place `at`.
-fn with_file(w: Words, at: usize, word: &[u8]) -> Words {
-    if !is_file(word) {
-        return bad(
-            w,
-            b"table: --out and --status want a file's name of up to 4096 bytes behind them (./-x for -x), and not `",
-            word,
-        );
-    }
-    let mut s = w;
-    s.wants = 0;
-    if w.wants == OUT {
-        s.out = at;
-    } else {
-        s.status = at;
-    }
-    s
-}
-
-// The number of a name, 0 of any other word.
-fn name_of(word: &[u8]) -> usize {
-    if check::same(word, b"--out") {
-        return OUT;
-    }
-    if check::same(word, b"--status") {
-        return STATUS;
-    }
-    if check::same(word, b"--help") | check::same(word, b"-h") {
-        return HELP;
-    }
-    0
-}
-
-fn with_name(w: Words, name: usize, word: &[u8]) -> Words {
-    if ((name == OUT) & (w.out > 0)) | ((name == STATUS) & (w.status > 0)) {
-        return bad(w, b"table: this is given twice: `", word);
-    }
-    let mut s = w;
-    if name == HELP {
-        s.help = true;
-    } else {
-        s.wants = name;
-    }
-    s
 }
 
 fn with_word(w: Words, at: usize, word: &[u8]) -> Words {
-    if w.wants > 0 {
-        return with_file(w, at, word);
-    }
-    let name = name_of(word);
-    if name > 0 {
-        return with_name(w, name, word);
+    let common = w.common;
+    if programs::is_common(common, word) {
+        return with_common(w, programs::with_word(common, b"table", at, word));
     }
     let k = w.plain;
     match k {
         0 | 1 => with_count(w, word),
         2 => with_cutoff(w, word),
         3 => with_window(w, word),
-        _ => bad(w, b"table: one word too many: `", word),
+        _ => bad(w, b": one word too many: `", word),
     }
 }
 
 // A word of more than 4,096 bytes is read as an empty one, which is bad wherever it stands.
 fn with_next(w: Words, at: usize) -> Words {
-    if !w.good {
+    let common = w.common;
+    if !common.good {
         return w;
     }
     let mut word = io::buffer();
@@ -175,15 +107,15 @@ fn with_next(w: Words, at: usize) -> Words {
 
 // Whether nothing is missing behind the last word.
 fn complete(w: Words) -> Words {
-    let lacks = (w.plain < 4) | (w.out == 0);
-    if w.good & ((lacks & !w.help) | (w.wants > 0)) {
-        return bad(
-            w,
-            b"table: a word is missing (--help says more); wanted are POINTS FACTOR CUTOFF WINDOW --out FILE, as in `",
-            b"64 16 0.9 bh2 --out t.f64",
-        );
-    }
-    w
+    let common = w.common;
+    let whole = programs::complete(
+        common,
+        w.plain < 4,
+        b"table",
+        b": a word is missing (--help says more); wanted are POINTS FACTOR CUTOFF WINDOW --out FILE, as in `",
+        b"64 16 0.9 bh2 --out t.f64",
+    );
+    with_common(w, whole)
 }
 
 // All the words. What is wrong with them is told.
@@ -194,11 +126,7 @@ pub fn read_words() -> Words {
         factor: 0,
         cutoff: 0.0,
         window: WindowFunction::Hann,
-        out: 0,
-        status: 0,
-        wants: 0,
-        help: false,
-        good: true,
+        common: programs::no_words(),
     };
     for at in 1..os::arg_count() {
         w = with_next(w, at);

@@ -10,6 +10,9 @@ Inv-loop w₀ at₀ at-end w at = Unit {0}
 abbrev μ-loop : tie.MeasureT-loop
 μ-loop w₀ at₀ at-end w at = at-end - at
 
+no-words-requires : tie.Need-no-words-requires Inv-loop μ-loop
+no-words-requires c κs = search needs
+
 arg-count-requires : tie.Need-arg-count-requires Inv-loop μ-loop
 arg-count-requires c κs = search needs
 
@@ -40,6 +43,7 @@ read-words-spec =
     (tie.spec
     Inv-loop
     μ-loop
+    no-words-requires
     arg-count-requires
     loop-holds
     with-next-requires
