@@ -1,12 +1,12 @@
 // The commands on the pass log, which put their answers themselves, each at the start of the buffer. They
 // answer how many bytes it has.
-use log_records::Put;
 use log_records::Read;
-use log_records::Refused;
-use log_records::put_record;
 use log_records::read_record;
 use log_salvage::Stretch;
 use log_salvage::next_stretch;
+use log_writer::Put;
+use log_writer::Refused;
+use log_writer::put_record;
 use printer::bytes_of;
 use printer::put_byte;
 use printer::put_bytes;
@@ -51,7 +51,7 @@ fn or_dash(out: &mut [u8], from: usize, to: usize) -> usize {
 
 fn put_refused(out: &mut [u8], r: Refused) -> usize {
     let p = put_bytes(out, 0, b"ref ");
-    put_decimal(out, p, log_records::number(r))
+    put_decimal(out, p, log_writer::number(r))
 }
 
 // The record that stands at the front of the lent bytes.

@@ -7,8 +7,8 @@ use lib.ListN.{length, take, drop, length-append, drop-of-length-le}
 use lib.Seq.{paste, take-at, drop-append-add, drop-drop, take-all}
 use Rattle.samples.specs.Samples.{bytesFrom}
 use Rattle.samples.proofs.Bytes.{length-bytes}
-use Rattle.log_records.specs.Records.{saidPut, putSaid, putArea}
-use Rattle.log_records.specs.declared.Put.{Put}
+use Rattle.log_writer.specs.Writer.{saidPut, putSaid, putArea}
+use Rattle.log_writer.specs.declared.Put.{Put}
 
 -- x is d with the n bytes of w at its front
 pub record Front (d w x : List ℕ) (n : ℕ) : Type 0 where

@@ -1,11 +1,11 @@
 // The records of a pass's calls: what the pass log keeps of each.
-use log_records::Put;
-use log_records::put_record;
+use log_writer::Put;
+use log_writer::put_record;
 use samples::put_little;
 use samples::put_sample;
 ghost use mathlib.Core.Path.{_≡_};
 ghost use lib.ListN.{length};
-ghost use Rattle.log_records.specs.Records.{saidPut, putSaid, putArea};
+ghost use Rattle.log_writer.specs.Writer.{saidPut, putSaid, putArea};
 ghost use Rattle.log_calls.specs.Payloads.{startPayload, increment, blockPayload, settingPayload};
 
 fn start_payload(index: f64) -> [u8; 8]

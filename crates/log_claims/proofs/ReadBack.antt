@@ -11,10 +11,11 @@ use lib.ListN.{length, getD, take, drop, length-append, length-drop, take-append
 use lib.Seq.{take-at, getD-append-add, getD-append-seam, take-append-seam, drop-append-seam, take-append-le, drop-append-le, drop-drop, getD-drop, drop-cons, length-take-le}
 use Rattle.error.specs.Refusals.{Said, given, unless}
 use Rattle.error.proofs.Ladder.{both, join, accepted, same-given}
-use Rattle.log_records.specs.Records.{twoOf, twoAt, isKind, total, bodyOf, sumOf, recordOf, markAgrees, kindAgrees, lengthAgrees, sumAgrees, agrees, recordLength, readAt, putSaid, placed, putArea}
+use Rattle.log_records.specs.Records.{twoOf, twoAt, isKind, total, bodyOf, sumOf, recordOf, markAgrees, kindAgrees, lengthAgrees, sumAgrees, agrees, recordLength, readAt}
+use Rattle.log_writer.specs.Writer.{putSaid, placed, putArea}
 use Rattle.log_records.specs.declared.Read.the-variants.{Record}
 use Rattle.log_records.proofs.Places.{Stands, stands, read-some}
-use Rattle.log_records.proofs.Written.{kind-most}
+use Rattle.log_writer.proofs.Written.{kind-most}
 use Rattle.log_claims.proofs.Local.{more-agrees}
 
 two-back : (n : ℕ) → n < 65536 → n % 256 + 256 * (n / 256 % 256) ≡ n

@@ -5,10 +5,10 @@ use Prim.Native.Nat.{ℕ}
 use lib.Dec.{eqb}
 use Rattle.error.specs.Refusals.{Said, given, refused}
 use Rattle.error.proofs.Settled.{settled}
-use Rattle.log_records.specs.declared.Refused.the-variants.{UnknownKind, PayloadTooLong, NoRoom}
-use Rattle.log_records.specs.declared.Put.{Put}
-use Rattle.log_records.specs.declared.Put.the-variants.{Done, Not}
-use Rattle.log_records.specs.Records.{saidPut}
+use Rattle.log_writer.specs.declared.Refused.the-variants.{UnknownKind, PayloadTooLong, NoRoom}
+use Rattle.log_writer.specs.declared.Put.{Put}
+use Rattle.log_writer.specs.declared.Put.the-variants.{Done, Not}
+use Rattle.log_writer.specs.Writer.{saidPut}
 
 putOf : Said ℕ → Put
 putOf (given n) = Done n

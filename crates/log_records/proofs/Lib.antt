@@ -1,4 +1,3 @@
 -- What the proofs cite.
 pub mod Sums
 pub mod Places
-pub mod Written

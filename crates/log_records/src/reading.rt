@@ -37,7 +37,7 @@ fn head_agrees(log: &[u8], at: usize) -> bool
     ((log[at] == 0xD7) & (log[at + 1] == 0x1A)) & ((1 <= kind) & (kind <= 4))
 }
 
-// So many bytes added up. Only this crate calls this function.
+// So many bytes added up. Only our own crates call this function.
 pub fn total_of(bytes: &[u8], from: usize, n: usize) -> usize
     requires { ⌜ (from + n ≤ length (now bytes)) × (n ≤ 67) ⌝ }
     ensures { λ r. ⌜ (r ≡ total (take n (drop from (now (bytes .entry))))) × (r ≤ 255 * n) ⌝ }

@@ -4,7 +4,7 @@
 use log_calls::put_block;
 use log_calls::put_setting;
 use log_calls::put_start;
-use log_records::Put;
+use log_writer::Put;
 use printer::bytes_of;
 
 // Writes the record that was put at the front of the bytes.

@@ -1,9 +1,9 @@
--- `log_records::writing::head_of` meets its contract. Assumes nothing.
+-- `log_writer::head_of` meets its contract. Assumes nothing.
 use native.Mathlib.Omega.{arith}
 use borrow.Author.Needs.{needs}
-use Rattle.log_records.proofs.Written.{kind-most}
-use Rattle.log_records.proofs.writing.head_of.Statement.{statement}
-use Rattle.log_records.proofs.writing.head_of.Tie as tie
+use Rattle.log_writer.proofs.Written.{kind-most}
+use Rattle.log_writer.proofs.head_of.Statement.{statement}
+use Rattle.log_writer.proofs.head_of.Tie as tie
 
 cast-t3 : tie.Need-cast-t3
 cast-t3 c = record { fits = omega (arith, kind-most (c .args .kind) (c .pre .0)) }

@@ -1,11 +1,11 @@
--- `log_records::writing::sum_of` meets its contract. Assumes nothing.
+-- `log_writer::sum_of` meets its contract. Assumes nothing.
 use mathlib.Core.Path.{ap}
 use Prim.Native.Nat.{ℕ, _%_}
 use borrow.Author.Needs.{needs}
 use Rattle.log_records.specs.Records.{twoOf}
-use Rattle.log_records.proofs.Written.{sums-joined}
-use Rattle.log_records.proofs.writing.sum_of.Statement.{statement}
-use Rattle.log_records.proofs.writing.sum_of.Tie as tie
+use Rattle.log_writer.proofs.Written.{sums-joined}
+use Rattle.log_writer.proofs.sum_of.Statement.{statement}
+use Rattle.log_writer.proofs.sum_of.Tie as tie
 
 slice-aggregate-total-of : tie.Need-slice-aggregate-total-of
 slice-aggregate-total-of c = search needs

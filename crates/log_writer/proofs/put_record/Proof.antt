@@ -1,4 +1,4 @@
--- `log_records::writing::put_record` meets its contract: the refusals in their order. Assumes nothing.
+-- `log_writer::put_record` meets its contract: the refusals in their order. Assumes nothing.
 use mathlib.Core.Path.{ap}
 use Prim.Native.Nat.{_+_}
 use borrow.Author.Tests.{le-leb, lt-leb}
@@ -6,10 +6,10 @@ use lib.ListN.{length}
 use Rattle.error.specs.Refusals.{given}
 use borrow.Author.Needs.{needs}
 use Rattle.error.proofs.Ladder.{pass, stop, failed, passed}
-use Rattle.log_records.specs.Records.{putSaid}
-use Rattle.log_records.proofs.Written.{not-put, put}
-use Rattle.log_records.proofs.writing.put_record.Statement.{statement}
-use Rattle.log_records.proofs.writing.put_record.Tie as tie
+use Rattle.log_writer.specs.Writer.{putSaid}
+use Rattle.log_writer.proofs.Written.{not-put, put}
+use Rattle.log_writer.proofs.put_record.Statement.{statement}
+use Rattle.log_writer.proofs.put_record.Tie as tie
 
 is-kind-requires : tie.Need-is-kind-requires
 is-kind-requires c κs = search needs

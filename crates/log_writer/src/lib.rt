@@ -1,15 +1,38 @@
-// A record put at the front of lent bytes.
-use crate::Put;
-use crate::Refused;
-use crate::reading::is_kind;
-use crate::reading::total_of;
+// The writer of the pass log: a record put at the front of lent bytes.
+use log_records::is_kind;
+use log_records::total_of;
 use printer::put_bytes;
 ghost use mathlib.Core.Bool.{true};
 ghost use mathlib.Core.Path.{_≡_};
 ghost use mathlib.Core.List.{_∷_, _++_};
 ghost use Prim.Native.Nat.{_+_, _≤_};
 ghost use lib.ListN.{length, drop};
-ghost use Rattle.log_records.specs.Records.{twoOf, isKind, sumOf, recordOf, saidPut, putSaid, putArea};
+ghost use Rattle.log_records.specs.Records.{twoOf, isKind, sumOf, recordOf};
+ghost use Rattle.log_writer.specs.Writer.{numberOf, saidPut, putSaid, putArea};
+
+// Why the writer refused.
+pub enum Refused {
+    UnknownKind,
+    PayloadTooLong,
+    NoRoom,
+}
+
+// What the writer answers: how many bytes the record has, or why it wrote none.
+pub enum Put {
+    Done(usize),
+    Not(Refused),
+}
+
+// The refusal's number in document 02.
+pub fn number(r: Refused) -> u64
+    ensures { λ n. ⌜ n ≡ numberOf r ⌝ }
+{
+    match r {
+        Refused::UnknownKind => 11,
+        Refused::PayloadTooLong => 21,
+        Refused::NoRoom => 22,
+    }
+}
 
 // The mark, the kind and the length. Only this crate calls this function.
 fn head_of(kind: u64, n: usize) -> [u8; 5]

@@ -1,9 +1,9 @@
--- `log_records::writing::write` meets its contract: the parts are put one behind the other. Assumes nothing.
+-- `log_writer::write` meets its contract: the parts are put one behind the other. Assumes nothing.
 use mathlib.Core.Path.{refl}
 use borrow.Author.Needs.{needs}
-use Rattle.log_records.proofs.Written.{record-put}
-use Rattle.log_records.proofs.writing.write.Statement.{statement}
-use Rattle.log_records.proofs.writing.write.Tie as tie
+use Rattle.log_writer.proofs.Written.{record-put}
+use Rattle.log_writer.proofs.write.Statement.{statement}
+use Rattle.log_writer.proofs.write.Tie as tie
 
 head-of-requires : tie.Need-head-of-requires
 head-of-requires c κs = search needs

@@ -14,8 +14,9 @@ use Rattle.error.specs.Refusals.{Said, given, refused}
 use Rattle.error.proofs.Ladder.{both}
 use Rattle.printer.specs.Put.{putIn}
 use Rattle.printer.proofs.Texts.{TextPut, text-behind}
-use Rattle.log_records.specs.Records.{twoOf, isKind, total, sumOf, recordOf, putSaid, placed, putArea}
+use Rattle.log_records.specs.Records.{twoOf, isKind, total, sumOf, recordOf}
+use Rattle.log_writer.specs.Writer.{putSaid, placed, putArea}
 use Rattle.log_records.proofs.Sums.{total-append}
 
 pub kind-most : (kind : ℕ) → isKind kind ≡ true → kind ≤ 4
 kind-most kind h = leb-true kind 4 (both (leb 1 kind) (leb kind 4) h .1)
