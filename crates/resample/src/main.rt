@@ -1,7 +1,6 @@
 // Samples in, samples out, at another rate: the words of the command line say how (`--help`).
 mod run;
 mod setup;
-mod tones;
 
 use blocks::Reading;
 use course::Run;

@@ -1,10 +1,10 @@
--- `resample::tones::put_tones` is safe and ends: a frame a turn. Assumes nothing.
+-- `tones::put_tones` is safe and ends: a frame a turn. Assumes nothing.
 use mathlib.Core.Path.{_≡_}
 use Prim.Native.Nat.{_≤_, _-_}
 use lib.ListN.{length}
 use borrow.Author.Needs.{needs}
-use Rattle.resample.proofs.tones.put_tones.Statement.{statement}
-use Rattle.resample.proofs.tones.put_tones.Tie as tie
+use Rattle.tones.proofs.put_tones.Statement.{statement}
+use Rattle.tones.proofs.put_tones.Tie as tie
 
 abbrev Inv-loop : tie.InvT-loop
 Inv-loop bytes₀ n t₀ j₀ bytes t j = (j ≤ n) × (length bytes ≡ length bytes₀)

@@ -1,9 +1,9 @@
--- `resample::tones::write_tones` is safe and ends. Assumes nothing.
+-- `tones::write_tones` is safe and ends. Assumes nothing.
 use borrow.Author.Needs.{needs}
 use mathlib.Core.Path.{_≡_}
 use lib.ListN.{length}
-use Rattle.resample.proofs.tones.write_tones.Statement.{statement}
-use Rattle.resample.proofs.tones.write_tones.Tie as tie
+use Rattle.tones.proofs.write_tones.Statement.{statement}
+use Rattle.tones.proofs.write_tones.Tie as tie
 
 abbrev Inv-loop : tie.InvT-loop
 Inv-loop frames fd bytes₀ rest₀ turns₀ bytes rest turns = length bytes ≡ length bytes₀
