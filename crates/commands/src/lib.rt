@@ -2,7 +2,6 @@
 // the table that are kept, and the answer.
 mod answer;
 mod leaves;
-mod logs;
 mod record;
 mod said;
 mod shown;
@@ -109,9 +108,9 @@ fn put(
     area: &[f64],
 ) -> usize {
     match command {
-        Command::LogPut => logs::logput(out, values, bytes),
-        Command::LogRead => logs::logread(out, values, bytes),
-        Command::Salvage => logs::salvage(out, values, bytes),
+        Command::LogPut => log_words::logput(out, values, bytes),
+        Command::LogRead => log_words::logread(out, values, bytes),
+        Command::Salvage => log_words::salvage(out, values, bytes),
         _ => put_answer(out, said, area),
     }
 }

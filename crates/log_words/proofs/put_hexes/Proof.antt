@@ -1,10 +1,10 @@
--- `commands::logs::put_hexes` is safe and ends. Assumes nothing.
+-- `log_words::put_hexes` is safe and ends. Assumes nothing.
 use mathlib.Core.Path.{_≡_}
 use borrow.Author.Needs.{needs}
 use Prim.Native.Nat.{_-_}
 use lib.ListN.{length}
-use Rattle.commands.proofs.logs.put_hexes.Statement.{statement}
-use Rattle.commands.proofs.logs.put_hexes.Tie as tie
+use Rattle.log_words.proofs.put_hexes.Statement.{statement}
+use Rattle.log_words.proofs.put_hexes.Tie as tie
 
 abbrev Inv-loop : tie.InvT-loop
 Inv-loop out₀ at bytes from to end p₀ k₀ out p k =

@@ -1,9 +1,9 @@
--- `commands::logs::put_walk` is safe and ends: its turns are counted down. Assumes nothing.
+-- `log_words::put_walk` is safe and ends: its turns are counted down. Assumes nothing.
 use mathlib.Core.Path.{_≡_}
 use borrow.Author.Needs.{needs}
 use lib.ListN.{length}
-use Rattle.commands.proofs.logs.put_walk.Statement.{statement}
-use Rattle.commands.proofs.logs.put_walk.Tie as tie
+use Rattle.log_words.proofs.put_walk.Statement.{statement}
+use Rattle.log_words.proofs.put_walk.Tie as tie
 
 abbrev Inv-loop : tie.InvT-loop
 Inv-loop out₀ at log listed p₀ place₀ turns₀ out p place turns =

@@ -1,5 +1,5 @@
-// The commands on the pass log, which put their answers themselves, each at the start of the buffer. They
-// answer how many bytes it has.
+// The call script's words on the pass log, which put their answers themselves, each at the start of the
+// buffer. They answer how many bytes it has. Each function is proved safe and to end.
 use log_records::Read;
 use log_records::read_record;
 use log_salvage::Stretch;
