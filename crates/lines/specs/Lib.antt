@@ -1,0 +1,2 @@
+-- A line of the sheet. Definitions only.
+pub mod Lines

@@ -1,0 +1,3 @@
+-- The line along live calls, the sheet over logs, and the log of a history. Definitions only.
+pub mod Live
+pub mod Logs

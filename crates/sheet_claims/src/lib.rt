@@ -1,0 +1,1 @@
+// What is claimed of the sheet is in specs/, and its proofs in proofs/.

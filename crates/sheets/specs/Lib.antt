@@ -1,0 +1,2 @@
+-- The sheet over logs. Definitions only.
+pub mod Sheet
