@@ -1,2 +1,3 @@
 -- A line of the sheet. Definitions only.
 pub mod Lines
+pub mod Steps

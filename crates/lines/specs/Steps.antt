@@ -1,0 +1,50 @@
+-- What the functions of a line answer of doubles that are positions. Definitions only.
+use mathlib.Core.Bool.{Bool, true, not, cond, _&&_}
+use mathlib.Core.Path.{_≡_}
+use Prim.Native.Nat.{ℕ, _+_, _*_, _^_, _<_}
+use lib.Ieee.{Float, eq}
+use Rattle.exact.specs.Doubles.{zeroF}
+use Rattle.exact.specs.Whole.{_⊕_, _⊙_}
+use Rattle.exact.specs.Running.{tri}
+use Rattle.positions.specs.declared.held.Held.{Held}
+use Rattle.positions.specs.declared.double.FromDouble.{FromDouble}
+use Rattle.positions.specs.Positions.{one, inside, isMultiple, positionOf, HeldIf, IsDouble}
+use Rattle.lines.specs.declared.End.the-variants as end
+use Rattle.lines.specs.declared.Line.{Line}
+use Rattle.lines.specs.declared.Lined.{Lined}
+use Rattle.lines.specs.declared.Factors.{Factors}
+use Rattle.lines.specs.Lines.{on, check, figuresOf, goingOf, grown, moveOf, blockFits, figuresFit}
+
+-- x is the double y, a multiple of 2^-192
+abbrev pub IsPosition : Float → FromDouble → Type 0
+IsPosition y x = IsDouble y x × (isMultiple y ≡ true)
+
+-- whether x is no position
+abbrev pub OtherBy : FromDouble → Bool → Type 0
+OtherBy x r = (y : Float) → IsDouble y x → r ≡ not (isMultiple y)
+
+-- 1 + 2 + .. + n in two factors, the second not 0
+abbrev pub IsTriangle : ℕ → Factors → Type 0
+IsTriangle n r = (r .j * r .k ≡ tri n) × (0 < r .k)
+
+-- n*t + d*n*(n+1)/2, and its three tests
+abbrev pub MovedBy : ℕ → FromDouble → FromDouble → Held → Type 0
+MovedBy n step more r =
+    (t d : Float) → IsPosition t step → IsPosition d more → HeldIf (inside (n ⊙ positionOf t) && (inside (tri n ⊙ positionOf d) && inside (moveOf n t d))) (moveOf n t d) r
+
+-- the input sizes and the index, and the tests of the index and of the sum
+abbrev pub StoredBy : ℕ → FromDouble → Held → Type 0
+StoredBy inputs at r = (i : Float) → IsPosition i at → HeldIf (inside (positionOf i) && inside ((inputs * one, 0) ⊕ positionOf i)) ((inputs * one, 0) ⊕ positionOf i) r
+
+-- what a block adds to the bound, where d is zero or not
+abbrev pub rampBy : ℕ → Bool → ℕ
+rampBy n flat = cond flat 0 (n * (n + 1) * 2 ^ 146)
+
+abbrev pub allowedBy : ℕ → Bool → ℕ
+allowedBy n flat = (n + 1) * 2 ^ 155 + rampBy n flat
+
+-- the line with a block whose three doubles are positions
+abbrev pub GrownBy : Line → ℕ → ℕ → FromDouble → FromDouble → FromDouble → Bool → Lined → Type 0
+GrownBy l n c step more at flat r =
+    (t d i : Float) → IsPosition t step → IsPosition d more → IsPosition i at → flat ≡ eq d zeroF
+    → goingOf r ≡ check (blockFits n t d i && figuresFit (grown (figuresOf l) n c t d i)) end.Range (on (grown (figuresOf l) n c t d i))

@@ -1,0 +1,135 @@
+// A line with a block added.
+use crate::End;
+use crate::Factors;
+use crate::Line;
+use crate::Lined;
+use big::Big;
+use big::add;
+use big::of_u64;
+use big::shift_left;
+use positions::FromDouble;
+use positions::Held;
+use positions::of_double;
+use positions::sum;
+use positions::times;
+use positions::with_whole;
+ghost use mathlib.Core.Path.{_≡_};
+ghost use Rattle.big.specs.Value.{valueOf};
+ghost use Rattle.lines.specs.Lines.{figuresOf, goingOf, withBlock};
+ghost use Rattle.lines.specs.Steps.{OtherBy, IsTriangle, MovedBy, StoredBy, rampBy, allowedBy, GrownBy};
+
+fn is_other(x: FromDouble) -> bool
+    ensures { λ r. ⌜ OtherBy x r ⌝ }
+{
+    match x {
+        FromDouble::Other => true,
+        _ => false,
+    }
+}
+
+// n*(n+1)/2: the even one of the two is halved.
+fn triangle(n: u32) -> Factors
+    ensures { λ r. ⌜ IsTriangle n r ⌝ }
+{
+    if n % 2 == 0 {
+        return Factors { j: n / 2, k: n + 1 };
+    }
+    Factors { j: n / 2 + 1, k: n }
+}
+
+// n*t + d*n*(n+1)/2.
+fn moved(n: u32, step: FromDouble, more: FromDouble) -> Held
+    ensures { λ r. ⌜ MovedBy n step more r ⌝ }
+{
+    let f = triangle(n);
+    let Held::Kept(steps) = times(step, n, 1) else {
+        return Held::Left;
+    };
+    let Held::Kept(ramp) = times(more, f.j, f.k) else {
+        return Held::Left;
+    };
+    sum(steps, ramp)
+}
+
+// The input sizes answered and the index.
+fn stored_at(inputs: u64, at: FromDouble) -> Held
+    ensures { λ r. ⌜ StoredBy inputs at r ⌝ }
+{
+    match at {
+        FromDouble::Units(i) => with_whole(inputs, i),
+        FromDouble::Beyond => Held::Left,
+        FromDouble::Other => Held::Left,
+    }
+}
+
+// n*(n+1)/2^46.
+fn ramp_of(n: u32, flat: bool) -> Big
+    ensures { λ r. ⌜ valueOf r ≡ rampBy n flat ⌝ }
+{
+    if flat {
+        return of_u64(0);
+    }
+    let m = n as u64;
+    shift_left(of_u64(m * (m + 1)), 146)
+}
+
+// What a block adds to the bound: (n+1)/2^37, and n*(n+1)/2^46 where its increment is not zero.
+fn allowance(n: u32, flat: bool) -> Big
+    ensures { λ r. ⌜ valueOf r ≡ allowedBy n flat ⌝ }
+{
+    add(
+        shift_left(of_u64(n as u64 + 1), 155),
+        ramp_of(n, flat),
+    )
+}
+
+// The line with a block whose three doubles are positions, each product, sum and count within its range.
+fn grown(
+    l: Line,
+    n: u32,
+    c: u32,
+    step: FromDouble,
+    more: FromDouble,
+    at: FromDouble,
+    flat: bool,
+) -> Lined
+    ensures { λ r. ⌜ GrownBy l n c step more at flat r ⌝ }
+{
+    let before = l.exactly;
+    let most = l.most;
+    if (u64::MAX - l.inputs < c as u64) | (u64::MAX - l.frames < n as u64) | (l.blocks == u64::MAX)
+    {
+        return Lined::Ended(End::Range);
+    }
+    let Held::Kept(way) = moved(n, step, more) else {
+        return Lined::Ended(End::Range);
+    };
+    let Held::Kept(exactly) = sum(before, way) else {
+        return Lined::Ended(End::Range);
+    };
+    let Held::Kept(stored) = stored_at(l.inputs + c as u64, at) else {
+        return Lined::Ended(End::Range);
+    };
+    Lined::On(Line {
+        frames: l.frames + n as u64,
+        blocks: l.blocks + 1,
+        inputs: l.inputs + c as u64,
+        exactly,
+        stored,
+        most: add(most, allowance(n, flat)),
+    })
+}
+
+// The line with an accepted block of n output and c input frames: its starting step t, its increment d and
+// the index that it left. Ends with Float where one of these is no position, then with Range.
+pub fn add_block(l: Line, n: u32, c: u32, t: f64, d: f64, index: f64) -> Lined
+    ensures { λ r. ⌜ goingOf r ≡ withBlock (figuresOf l) n c t d index ⌝ }
+{
+    let step = of_double(t);
+    let more = of_double(d);
+    let at = of_double(index);
+    if is_other(step) | is_other(more) | is_other(at) {
+        return Lined::Ended(End::Float);
+    }
+    grown(l, n, c, step, more, at, d == 0.0)
+}
