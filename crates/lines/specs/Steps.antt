@@ -1,19 +1,23 @@
 -- What the functions of a line answer of doubles that are positions. Definitions only.
-use mathlib.Core.Bool.{Bool, true, not, cond, _&&_}
+use mathlib.Core.Bool.{Bool, true, false, not, cond, _&&_}
+use mathlib.Core.Logic.{_⊎_}
 use mathlib.Core.Path.{_≡_}
-use Prim.Native.Nat.{ℕ, _+_, _*_, _^_, _<_}
+use Prim.Native.Nat.{ℕ, _+_, _*_, _%_, _^_, _<_}
 use lib.Ieee.{Float, eq}
 use Rattle.exact.specs.Doubles.{zeroF}
-use Rattle.exact.specs.Whole.{_⊕_, _⊙_}
+use Rattle.exact.specs.Whole.{Whole, _⊕_, _⊙_}
 use Rattle.exact.specs.Running.{tri}
+use Rattle.big.specs.declared.Big.{Big}
+use Rattle.big.specs.Value.{valueOf, full}
 use Rattle.positions.specs.declared.held.Held.{Held}
 use Rattle.positions.specs.declared.double.FromDouble.{FromDouble}
-use Rattle.positions.specs.Positions.{one, inside, isMultiple, positionOf, HeldIf, IsDouble}
+use Rattle.positions.specs.Positions.{one, plain, heldIn, inside, isMultiple, positionOf, HeldIf, IsDouble}
 use Rattle.lines.specs.declared.End.the-variants as end
 use Rattle.lines.specs.declared.Line.{Line}
 use Rattle.lines.specs.declared.Lined.{Lined}
+use Rattle.lines.specs.declared.Lined.the-variants as lined
 use Rattle.lines.specs.declared.Factors.{Factors}
-use Rattle.lines.specs.Lines.{on, check, figuresOf, goingOf, grown, moveOf, blockFits, figuresFit}
+use Rattle.lines.specs.Lines.{isCount, on, check, figuresOf, goingOf, grown, moveOf, blockFits, figuresFit}
 
 -- x is the double y, a multiple of 2^-192
 abbrev pub IsPosition : Float → FromDouble → Type 0
@@ -42,6 +46,24 @@ rampBy n flat = cond flat 0 (n * (n + 1) * 2 ^ 146)
 
 abbrev pub allowedBy : ℕ → Bool → ℕ
 allowedBy n flat = (n + 1) * 2 ^ 155 + rampBy n flat
+
+-- a position with what a block moves it, where that is held
+abbrev pub AfterBy : Big → Held → Held → Type 0
+AfterBy before way r = (ok : Bool) (v : Whole) → HeldIf ok v way → HeldIf (ok && inside (heldIn before ⊕ v)) (heldIn before ⊕ v) r
+
+-- a line with a block's counts and bound; Range where a count, or the input sizes, would be 2^64 or more
+abbrev pub CountedBy : Line → ℕ → ℕ → Bool → Lined → Type 0
+CountedBy l n c flat (lined.On m) =
+    (m .frames ≡ l .frames + n) × (m .blocks ≡ l .blocks + 1) × (m .inputs ≡ l .inputs + c) × (valueOf (m .most) ≡ (valueOf (l .most) + allowedBy n flat) % full)
+    × (isCount (l .frames + n) ≡ true) × (isCount (l .blocks + 1) ≡ true)
+CountedBy l n c flat (lined.Ended e) =
+    (e ≡ end.Range) × ((isCount (l .inputs + c) ≡ false) ⊎ ((isCount (l .frames + n) ≡ false) ⊎ (isCount (l .blocks + 1) ≡ false)))
+
+-- a line with its counts and bound, and positions that are held where both tests pass
+abbrev pub PlacedBy : Line → Held → Held → Lined → Type 0
+PlacedBy m exactly stored r =
+    (a b : Bool) (v w : Whole) → HeldIf a v exactly → HeldIf b w stored
+    → goingOf r ≡ check (a && b) end.Range (on (record { frames = m .frames; blocks = m .blocks; inputs = m .inputs; exactly = plain v; stored = plain w; most = valueOf (m .most) }))
 
 -- the line with a block whose three doubles are positions
 abbrev pub GrownBy : Line → ℕ → ℕ → FromDouble → FromDouble → FromDouble → Bool → Lined → Type 0

@@ -16,14 +16,15 @@ use positions::with_whole;
 ghost use mathlib.Core.Path.{_≡_};
 ghost use Rattle.big.specs.Value.{valueOf};
 ghost use Rattle.lines.specs.Lines.{figuresOf, goingOf, withBlock};
-ghost use Rattle.lines.specs.Steps.{OtherBy, IsTriangle, MovedBy, StoredBy, rampBy, allowedBy, GrownBy};
+ghost use Rattle.lines.specs.Steps.{OtherBy, IsTriangle, MovedBy, StoredBy, rampBy, allowedBy, AfterBy, CountedBy, PlacedBy, GrownBy};
 
 fn is_other(x: FromDouble) -> bool
     ensures { λ r. ⌜ OtherBy x r ⌝ }
 {
     match x {
+        FromDouble::Units(_) => false,
+        FromDouble::Beyond => false,
         FromDouble::Other => true,
-        _ => false,
     }
 }
 
@@ -83,6 +84,58 @@ fn allowance(n: u32, flat: bool) -> Big
     )
 }
 
+// The line's exact position with what a block moves it.
+fn exact_after(before: Big, way: Held) -> Held
+    ensures { λ r. ⌜ AfterBy before way r ⌝ }
+{
+    match way {
+        Held::Kept(w) => sum(before, w),
+        Held::Left => Held::Left,
+    }
+}
+
+// The line's counts and its bound with a block; its positions are those before it.
+fn counted(l: Line, n: u32, c: u32, flat: bool) -> Lined
+    ensures { λ r. ⌜ CountedBy l n c flat r ⌝ }
+{
+    let most = l.most;
+    let exactly = l.exactly;
+    let stored = l.stored;
+    if u64::MAX - l.inputs < c as u64 {
+        return Lined::Ended(End::Range);
+    }
+    if u64::MAX - l.frames < n as u64 {
+        return Lined::Ended(End::Range);
+    }
+    if l.blocks == u64::MAX {
+        return Lined::Ended(End::Range);
+    }
+    Lined::On(Line {
+        frames: l.frames + n as u64,
+        blocks: l.blocks + 1,
+        inputs: l.inputs + c as u64,
+        exactly,
+        stored,
+        most: add(most, allowance(n, flat)),
+    })
+}
+
+// The line with other positions.
+fn placed(l: Line, exactly: Held, stored: Held) -> Lined
+    ensures { λ r. ⌜ PlacedBy l exactly stored r ⌝ }
+{
+    let Held::Kept(e) = exactly else {
+        return Lined::Ended(End::Range);
+    };
+    let Held::Kept(s) = stored else {
+        return Lined::Ended(End::Range);
+    };
+    let mut next = l;
+    next.exactly = e;
+    next.stored = s;
+    Lined::On(next)
+}
+
 // The line with a block whose three doubles are positions, each product, sum and count within its range.
 fn grown(
     l: Line,
@@ -96,28 +149,14 @@ fn grown(
     ensures { λ r. ⌜ GrownBy l n c step more at flat r ⌝ }
 {
     let before = l.exactly;
-    let most = l.most;
-    if (u64::MAX - l.inputs < c as u64) | (u64::MAX - l.frames < n as u64) | (l.blocks == u64::MAX)
-    {
-        return Lined::Ended(End::Range);
+    match counted(l, n, c, flat) {
+        Lined::On(next) => placed(
+            next,
+            exact_after(before, moved(n, step, more)),
+            stored_at(next.inputs, at),
+        ),
+        Lined::Ended(e) => Lined::Ended(e),
     }
-    let Held::Kept(way) = moved(n, step, more) else {
-        return Lined::Ended(End::Range);
-    };
-    let Held::Kept(exactly) = sum(before, way) else {
-        return Lined::Ended(End::Range);
-    };
-    let Held::Kept(stored) = stored_at(l.inputs + c as u64, at) else {
-        return Lined::Ended(End::Range);
-    };
-    Lined::On(Line {
-        frames: l.frames + n as u64,
-        blocks: l.blocks + 1,
-        inputs: l.inputs + c as u64,
-        exactly,
-        stored,
-        most: add(most, allowance(n, flat)),
-    })
 }
 
 // The line with an accepted block of n output and c input frames: its starting step t, its increment d and

@@ -1,37 +1,31 @@
+-- `lines::adding::stored_at` meets its contract. Assumes nothing.
+use Rattle.lines.proofs.Grows.{stored-units, stored-beyond, stored-other}
 use borrow.Author.Needs.{needs}
 use Rattle.lines.proofs.adding.stored_at.Statement.{statement}
 use Rattle.lines.proofs.adding.stored_at.Tie as tie
-use Rattle.lines.proofs.adding.stored_at.Reads as reads
-use Rattle.lines.proofs.adding.stored_at.Lts as lts
-use Rattle.positions.proofs.with_whole.Reads as with-whole-reads
 
--- src/adding.rt:59:27
 enum-known-at : tie.Need-enum-known-at
 enum-known-at c = search needs
 
--- src/adding.rt:59:33
 with-whole-requires : tie.Need-with-whole-requires
 with-whole-requires c κs = search needs
 
--- src/adding.rt:60:31
 enum-told : tie.Need-enum-told
 enum-told c = search needs
 
--- src/adding.rt:61:30
 enum-told-2 : tie.Need-enum-told-2
 enum-told-2 c = search needs
 
--- src/adding.rt:55:1
 returns : tie.Need-returns
-returns c = ?
+returns c =
+    let a = c .before .before .before .before .args in
+    stored-units (a .inputs) (a .at) _ (c .with-whole .result) (c .before .before .at .given .1) (c .with-whole .ensures)
 
--- src/adding.rt:55:1
 returns-2 : tie.Need-returns-2
-returns-2 c = ?
+returns-2 c = stored-beyond (c .before .before .args .inputs) (c .before .before .args .at) (c .enum-told .given .1)
 
--- src/adding.rt:55:1
 returns-3 : tie.Need-returns-3
-returns-3 c = ?
+returns-3 c = stored-other (c .before .before .args .inputs) (c .before .before .args .at) (c .enum-told2 .given .1)
 
 pub stored-at-spec : {M : Type 1} → statement M
 stored-at-spec =
