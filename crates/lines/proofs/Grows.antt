@@ -234,6 +234,7 @@ module _ (l : Line) (n c : ℕ) (step more at : FromDouble) (flat : Bool) where
     where
       w : Whole
       w = ((l .inputs + c) * one, 0) ⊕ positionOf i
+
       go : (b : Bool) → inside (positionOf i) ≡ b → taken t d i ≡ false
       go false q = and-first (blockFits n t d i) _ (and-first (inside (positionOf i)) _ q)
       go true q =

@@ -78,10 +78,7 @@ fn ramp_of(n: u32, flat: bool) -> Big
 fn allowance(n: u32, flat: bool) -> Big
     ensures { λ r. ⌜ valueOf r ≡ allowedBy n flat ⌝ }
 {
-    add(
-        shift_left(of_u64(n as u64 + 1), 155),
-        ramp_of(n, flat),
-    )
+    add(shift_left(of_u64(n as u64 + 1), 155), ramp_of(n, flat))
 }
 
 // The line's exact position with what a block moves it.

@@ -82,7 +82,7 @@ payloadOf s index = blockPayload (s .output) (s .input) (stepNow s) (incrementOf
 -- the line that the block's bytes tell is the one that its numbers do
 block-line : (s : State) (index : Float) (f : Figures) → Small s index
     → let b = payloadOf s index in
-      withBlock f (littleFrom b 0 4) (littleFrom b 4 4) (sampleAt b 8) (sampleAt b 16) (sampleAt b 24) ≡ withBlock f (s .output) (s .input) (stepNow s) (incrementOf s) index
+    withBlock f (littleFrom b 0 4) (littleFrom b 4 4) (sampleAt b 8) (sampleAt b 16) (sampleAt b 24) ≡ withBlock f (s .output) (s .input) (stepNow s) (incrementOf s) index
 block-line s index f z =
     let n = s .output in
     let c = s .input in
@@ -174,9 +174,9 @@ module _ (c : Sums) (s t : State) (f : Figures) (cs : List Call) (z : Small s (t
 block-reads : (c : Sums) (s : State) (f : Figures) (frames mask : ℕ) (table input output work : List Float) (cs : List Call) (r : Said State)
     → planned s frames mask (length table) (length input) (length output) (length work) ≡ r → Reads c cs
     → let o = blockEnd s frames mask table input output work r in
-      FitsBy (grownBy s (on f) (o .said) (o .state .index)) (λ h. FitsAlong c (o .state) h cs)
+    FitsBy (grownBy s (on f) (o .said) (o .state .index)) (λ h. FitsAlong c (o .state) h cs)
     → readRecords (openPage c f) (blockRecord s (o .said) (o .state .index) ++ callsRecords (o .state) cs)
-      ≡ over c (stoodBy f (grownBy s (on f) (o .said) (o .state .index)) (λ h. stood (o .state) h cs))
+    ≡ over c (stoodBy f (grownBy s (on f) (o .said) (o .state .index)) (λ h. stood (o .state) h cs))
 block-reads c s f frames mask table input output work cs (given t) e next fits =
     given-reads c s t f cs (block-small s t (passed s t frames mask (length table) (length input) (length output) (length work) e)) next _ refl fits
 block-reads c s f frames mask table input output work cs (refused n vs) e next fits = next s f fits

@@ -40,7 +40,7 @@ starts p kind payload (inr e) = rw e
 
 pub start-judged : (p : Page) (payload : List ℕ) → length payload ≡ 8 → isMultiple (sampleAt payload 0) ≡ true
     → let v = positionOf (sampleAt payload 0) in
-      start p payload ≡ cond (inside v && sumsFit (plus (p .total) (opened v))) (goes (p .total) (closedRow (p .current)) (opened v)) (bad p end.Range)
+    start p payload ≡ cond (inside v && sumsFit (plus (p .total) (opened v))) (goes (p .total) (closedRow (p .current)) (opened v)) (bad p end.Range)
 unfolding start
 start-judged p payload l m =
     let x = sampleAt payload 0 in
@@ -80,7 +80,7 @@ range-when p f b e l m =
 -- a start's word stands where no line is open
 pub start-range-when : (p : Page) (kind : ℕ) (payload : List ℕ) → (kind ≡ 1) ⊎ (kind ≡ 4) → length payload ≡ 8 → isMultiple (sampleAt payload 0) ≡ true
     → let v = positionOf (sampleAt payload 0) in
-      ((inside v && sumsFit (plus (p .total) (opened v))) ≡ false) ↔ ((judge p kind payload .row ≡ endRow (p .current) end.Range) × (judge p kind payload .reads ≡ false))
+    ((inside v && sumsFit (plus (p .total) (opened v))) ≡ false) ↔ ((judge p kind payload .row ≡ endRow (p .current) end.Range) × (judge p kind payload .reads ≡ false))
 start-range-when p kind b k l m =
     let v = positionOf (sampleAt b 0) in
     range-iff p (p .total) (closedRow (p .current)) (opened v) (inside v && sumsFit (plus (p .total) (opened v))) (judge p kind b) (starts p kind b k ∙ start-judged p b l m)
@@ -113,11 +113,13 @@ start-reads p payload = go (eqb (length payload) 8)
   where
     x : Float
     x = sampleAt payload 0
+
     is : (h : Figures) → started x ≡ on h → opened (positionOf x) ≡ h
     is h e =
         let a = check-on (isMultiple x) end.Float (check (inside (positionOf x)) end.Range (on (opened (positionOf x)))) h e in
         let b = check-on (inside (positionOf x)) end.Range (on (opened (positionOf x))) h (a .1) in
         same-on (opened (positionOf x)) h (b .1)
+
     go : (t : Bool) → cond t (withLine p (p .total) (closedRow (p .current)) (started x)) (bad p end.Payload) .reads ≡ true
         → cond t (withLine p (p .total) (closedRow (p .current)) (started x)) (bad p end.Payload) ≡ goes (p .total) (closedRow (p .current)) (opened (positionOf x))
     go true h = line-reads p (p .total) (closedRow (p .current)) (opened (positionOf x)) (started x) is h

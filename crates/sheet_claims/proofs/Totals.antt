@@ -61,6 +61,7 @@ start-keeps p payload a = go (eqb (length payload) 8)
     closes : (c : Current) → withOpen (p .closed) c ≡ rowSum (p .closed) (closedRow c)
     closes none = refl
     closes (line f) = refl
+
     go : (t : Bool) → Keeps p (cond t (withLine p (p .total) (closedRow (p .current)) (started (sampleAt payload 0))) (bad p end.Payload))
     go true = line-keeps p (p .total) (closedRow (p .current)) (started (sampleAt payload 0)) a (a ∙ closes (p .current))
     go false = bad-keeps p end.Payload a
@@ -72,6 +73,7 @@ block-keeps p (line f) payload a = go (eqb (length payload) 32)
   where
     g : Going
     g = withBlock f (littleFrom payload 0 4) (littleFrom payload 4 4) (sampleAt payload 8) (sampleAt payload 16) (sampleAt payload 24)
+
     go : (t : Bool) → Keeps p (cond t (withLine p (p .closed) quiet g) (bad p end.Payload))
     go true = line-keeps p (p .closed) quiet g a refl
     go false = bad-keeps p end.Payload a

@@ -1,2 +1,3 @@
 -- The sheet over logs. Definitions only.
 pub mod Sheet
+pub mod Steps

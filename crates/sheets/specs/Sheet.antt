@@ -72,10 +72,14 @@ endRow (line f) e = row f e
 abbrev pub bad : Page → End → Judged
 bad p e = record { page = closing p; row = endRow (p .current) e; reads = false }
 
+-- the same where nothing is told of a line that is not open
+abbrev pub lineRow : Current → End → Row
+lineRow none e = quiet
+lineRow (line f) e = row f e
+
 -- "A construction or reset starts a new line and closes the old"
 abbrev pub closedRow : Current → Row
-closedRow none = quiet
-closedRow (line f) = row f end.Closed
+closedRow c = lineRow c end.Closed
 
 unfoldable pub withTotal : Page → Sums → Row → Figures → Judged
 withTotal p s r f = cond (sumsFit (plus s f)) (record { page = record { closed = s; total = plus s f; current = line f }; row = r; reads = true }) (bad p end.Range)
@@ -111,18 +115,17 @@ judge p kind payload =
 
 -- the end of a log: its line, if one is open, ends `open`
 unfoldable pub logEnd : Page → Judged
-logEnd p = record { page = closing p; row = openRow (p .current); reads = false }
-  where
-    openRow : Current → Row
-    openRow none = quiet
-    openRow (line f) = row f end.Open
+logEnd p = record { page = closing p; row = lineRow (p .current) end.Open; reads = false }
 
 -- ---- the code's words for these
 abbrev pub sumsOf : Total → Sums
 sumsOf t = record { frames = t .frames; blocks = t .blocks; exactly = heldIn (t .exactly); stored = heldIn (t .stored) }
 
+abbrev pub currentOf : Sheet → Current
+currentOf s = cond (s .is_open) (line (figuresOf (s .line))) none
+
 abbrev pub pageOf : Sheet → Page
-pageOf s = record { closed = sumsOf (s .closed); total = sumsOf (s .total); current = cond (s .is_open) (line (figuresOf (s .line))) none }
+pageOf s = record { closed = sumsOf (s .closed); total = sumsOf (s .total); current = currentOf s }
 
 abbrev pub rowOf : Told → Row
 rowOf told.Quiet = quiet

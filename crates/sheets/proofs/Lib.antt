@@ -1,0 +1,2 @@
+-- Laws that the proofs here share. Assumes nothing.
+pub mod Judging
