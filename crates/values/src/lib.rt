@@ -4,6 +4,7 @@ mod digits;
 mod rounding;
 mod sizes;
 
+pub use digits::put_number;
 ghost use mathlib.Core.Path.{_≡_};
 ghost use lib.ListN.{length};
 ghost use Rattle.printer.specs.Put.{putIn, placeAfter};

@@ -1,0 +1,2 @@
+-- Positions and lengths as text. Definitions only.
+pub mod Texts
