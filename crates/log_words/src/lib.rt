@@ -17,7 +17,7 @@ use script::values::number_at;
 use text::glyph_of;
 
 // The place behind so many bytes.
-fn behind(start: usize, n: usize) -> usize {
+pub fn behind(start: usize, n: usize) -> usize {
     if n <= usize::MAX - start {
         start + n
     } else {
@@ -32,7 +32,7 @@ fn put_digits(out: &mut [u8], at: usize, byte: u8) -> usize {
 }
 
 // The digits of the bytes from one place up to another, as far as there are bytes.
-fn put_hexes(out: &mut [u8], at: usize, bytes: &[u8], from: usize, to: usize) -> usize {
+pub fn put_hexes(out: &mut [u8], at: usize, bytes: &[u8], from: usize, to: usize) -> usize {
     let end = bytes_of(bytes, to);
     let mut p = at;
     for k in from..end {

@@ -2,19 +2,20 @@
 use text::Parsed;
 use text::digit_of;
 
-// What a word has come to as bytes: nothing yet, a lone `-`, so many bytes, so many and the first digit of
-// the next, or that it is none or too long.
+// What a word has come to as bytes, behind those of the words before it: nothing yet, a lone `-`, so many
+// bytes in all, so many and the first digit of the next, or that it is none or too long.
 pub enum Bytes {
-    Start,
-    Dash,
+    Start(usize),
+    Dash(usize),
     Whole(usize),
     Half(usize, u64),
     Bad,
 }
 
-pub fn begin_bytes(wanted: bool) -> Bytes {
+// Behind so many bytes.
+pub fn begin_bytes(wanted: bool, before: usize) -> Bytes {
     if wanted {
-        return Bytes::Start;
+        return Bytes::Start(before);
     }
     Bytes::Bad
 }
@@ -43,11 +44,11 @@ fn second_digit(bytes: &mut [u8], k: usize, high: u64, digit: u64) -> Bytes {
 pub fn bytes_step(bytes: &mut [u8], read: Bytes, byte: u8) -> Bytes {
     let digit = digit_of(byte);
     match read {
-        Bytes::Start => {
+        Bytes::Start(k) => {
             if byte == 45 {
-                Bytes::Dash
+                Bytes::Dash(k)
             } else {
-                first_digit(0, digit)
+                first_digit(k, digit)
             }
         }
         Bytes::Whole(k) => first_digit(k, digit),
@@ -56,10 +57,10 @@ pub fn bytes_step(bytes: &mut [u8], read: Bytes, byte: u8) -> Bytes {
     }
 }
 
-// The word has ended: the number of its bytes.
+// The word has ended: the number of the bytes in all.
 pub fn bytes_done(read: Bytes) -> Parsed {
     match read {
-        Bytes::Dash => Parsed::Number(0),
+        Bytes::Dash(k) => Parsed::Number(k as u64),
         Bytes::Whole(k) => Parsed::Number(k as u64),
         _ => Parsed::Bad,
     }

@@ -60,6 +60,28 @@ fn with(line: Line, word: Word) -> Line {
     then
 }
 
+// The line with one log more, of which any number may follow: the first value is how many there are, the
+// second how many bytes they have, and where each ends is kept as the bits of a sample.
+fn with_log(line: Line, word: Word, ends: &mut [f64]) -> Line {
+    let input = word.input;
+    let values = line.values;
+    let k = values[0] as usize;
+    let number = value_of(15, word);
+    let mut then = line;
+    then.input = input;
+    then.more = input.byte != 10;
+    then.good = false;
+    if let Parsed::Number(end) = number {
+        if k < ends.len() {
+            ends[k] = text::of_bits(end);
+            then.values[0] = values[0] + 1;
+            then.values[1] = end;
+            then.good = line.good;
+        }
+    }
+    then
+}
+
 // One word more; the samples of a block's output go to an area of their own. The other area takes what is
 // too long for one.
 fn read_next(
@@ -71,7 +93,12 @@ fn read_next(
 ) -> Line {
     let from = line.input;
     let kind = line.kinds % 16;
-    let word = no_word(from, kind == 14);
+    let values = line.values;
+    let before = if kind == 15 { values[1] } else { 0 };
+    let word = no_word(from, kind >= 14, before as usize);
+    if kind == 15 {
+        return with_log(line, read_word(buf, output, input, bytes, word), input);
+    }
     if kind == 9 {
         return with(line, read_word(buf, output, input, bytes, word));
     }
@@ -102,7 +129,7 @@ pub fn read_line(
     output: &mut [f64],
     bytes: &mut [u8],
 ) -> Line {
-    let mut line = begun(read_word(buf, input, output, bytes, no_word(before, false)));
+    let mut line = begun(read_word(buf, input, output, bytes, no_word(before, false, 0)));
     let mut more = line.more;
     let mut turns = u64::MAX;
     while turns > 0 && more {
@@ -118,7 +145,9 @@ pub fn command_in(line: Line) -> Command {
     if line.over {
         return Command::Over;
     }
-    if line.good & (line.kinds == 0) {
+    let values = line.values;
+    let logs = (line.kinds == 15) & (values[0] > 0);
+    if line.good & ((line.kinds == 0) | logs) {
         return command_of(line.name);
     }
     Command::Unknown

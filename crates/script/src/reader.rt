@@ -81,9 +81,9 @@ fn ends_word(byte: u8) -> bool {
 
 // Before the first byte of a word. As bytes it is bad from the start where none are wanted, so that it
 // leaves those of a word before it.
-pub fn no_word(input: Input, wanted: bool) -> Word {
+pub fn no_word(input: Input, wanted: bool, before: usize) -> Word {
     let none = text::no_digits();
-    let bytes = begin_bytes(wanted);
+    let bytes = begin_bytes(wanted, before);
     Word {
         input,
         name: 1,

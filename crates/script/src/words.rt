@@ -35,6 +35,9 @@ pub enum Command {
     LogPut,
     LogRead,
     Salvage,
+    Sheet,
+    Line,
+    LiveLog,
     // A line that can't be read.
     Unknown,
     // There is no line any more.
@@ -74,6 +77,9 @@ pub fn command_of(name: u64) -> Command {
         0x1_6c6f67707574 => Command::LogPut,
         0x1_6c6f6772656164 => Command::LogRead,
         0x1_73616c76616765 => Command::Salvage,
+        0x1_7368656574 => Command::Sheet,
+        0x1_6c696e65 => Command::Line,
+        0x1_6c6976656c6f67 => Command::LiveLog,
         _ => Command::Unknown,
     }
 }
@@ -82,7 +88,8 @@ pub fn command_of(name: u64) -> Command {
 // 1 the 16 digits of a float; 2 a whole number; 3 L, which is 1, 2, 4, 6 or 8; 4 `in` or `out`;
 // 5 `0` or `1`; 6 a number of grid points, 1 to 4; 7 a window; 8 an area; 9 the output of a block,
 // an area that is kept apart; 10 a blend; 11 L, or the `s` of a sinc and a colon; 12 a table, an area that
-// may be as long as two; 13 a whole number and a colon; 14 bytes. Behind the last word stands 0.
+// may be as long as two; 13 a whole number and a colon; 14 bytes; 15 bytes in one word or
+// more, one behind the other. Behind the last word stands 0.
 pub fn kinds_of(name: u64) -> u64 {
     match name {
         // new r m L chunk channels in|out
@@ -131,6 +138,8 @@ pub fn kinds_of(name: u64) -> u64 {
         0x1_6c6f6772656164 => 0xe2,
         // salvage BYTES
         0x1_73616c76616765 => 14,
+        // sheet LOG LOG ..
+        0x1_7368656574 => 15,
         _ => 0,
     }
 }
@@ -233,7 +242,7 @@ fn value_before(kind: u64, word: Word) -> Parsed {
 }
 
 // The number of a word as its kind reads it: of an area how many samples it has, of bytes how many there
-// are, of the `s` of a sinc 0.
+// are with those of the words before it, of the `s` of a sinc 0.
 pub fn value_of(kind: u64, word: Word) -> Parsed {
     let whole = word.whole;
     let bits = word.bits;
@@ -248,7 +257,7 @@ pub fn value_of(kind: u64, word: Word) -> Parsed {
         3 | 11 => counted(3, text::decimal_done(whole)),
         4 | 5 | 7 | 10 => named(kind, word.name),
         8 | 9 | 12 => samples_in(kind, word.first, area),
-        14 => bytes_done(bytes),
+        14 | 15 => bytes_done(bytes),
         _ => Parsed::Bad,
     }
 }
