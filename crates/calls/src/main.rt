@@ -54,7 +54,7 @@ fn main() {
     let mut output = [0.0; 131072];
     let mut work = [0.0; 131072];
     let mut table = [0.0; 262144];
-    let mut bytes = [0; 131072];
+    let mut bytes = [0; 262144];
     serve_all(
         &mut buf,
         &mut out,

@@ -2,12 +2,14 @@
 // the table that are kept, and the answer.
 mod answer;
 mod leaves;
+mod noted;
 mod record;
 mod said;
 mod shown;
 mod tables;
 
 use answer::put_answer;
+use noted::noted;
 use record::Change;
 use record::Kept;
 use record::left;
@@ -21,11 +23,13 @@ use script::reader::Input;
 use script::values::Values;
 use script::values::float_at;
 use script::words::Command;
+use sheet_words::Live;
 
-// What is kept from line to line, and the input behind the line. The answer has `end` bytes; it has
-// none once the input is over.
+// What is kept from line to line, the line and the log along the calls, and the input behind the line. The
+// answer has `end` bytes; it has none once the input is over.
 pub struct Served {
     pub kept: Kept,
+    pub live: Live,
     pub input: Input,
     pub end: usize,
 }
@@ -34,6 +38,7 @@ pub struct Served {
 pub fn begin() -> Served {
     Served {
         kept: record::nothing(),
+        live: sheet_words::nothing(),
         input: script::reader::start(),
         end: 0,
     }
@@ -97,13 +102,15 @@ fn run(
     }
 }
 
-// The answer to a line, at the start of the buffer. The commands on the pass log put theirs themselves, and
-// nothing was run for them.
+// The answer to a line, at the start of the buffer. The commands on the pass log and on the sheet put theirs
+// themselves, and nothing was run for them.
 fn put(
     out: &mut [u8],
     command: Command,
     values: Values,
     bytes: &[u8],
+    ends: &[f64],
+    live: Live,
     said: Said,
     area: &[f64],
 ) -> usize {
@@ -111,31 +118,52 @@ fn put(
         Command::LogPut => log_words::logput(out, values, bytes),
         Command::LogRead => log_words::logread(out, values, bytes),
         Command::Salvage => log_words::salvage(out, values, bytes),
+        Command::Sheet => sheet_words::put_sheet(out, values, bytes, ends),
+        Command::Line => sheet_words::put_line(out, live),
+        Command::LiveLog => noted::put_log(out, live, bytes),
         _ => put_answer(out, said, area),
     }
 }
 
-// Runs a line, and puts its answer.
+// Runs a line, and puts its answer. The ends of the logs of a line stand in `input`.
 fn answered(
     line: Line,
-    before: Kept,
+    served: Served,
     out: &mut [u8],
     input: &[f64],
     output: &mut [f64],
     work: &mut [f64],
     table: &mut [f64],
-    bytes: &[u8],
+    bytes: &mut [u8],
 ) -> Served {
+    let before = served.kept;
+    let first = served.live;
     let values = line.values;
     let command = command_in(line);
     let change = run(command, before, values, input, output, work, table);
-    let end = put(out, command, values, bytes, change.said, output);
+    let live = noted(first, command, values, before, change, bytes);
+    let end = put(
+        out,
+        command,
+        values,
+        bytes,
+        input,
+        live,
+        change.said,
+        output,
+    );
     let kept = change.kept;
     let input = line.input;
-    Served { kept, input, end }
+    Served {
+        kept,
+        live,
+        input,
+        end,
+    }
 }
 
-// Reads a line, runs it, and puts its answer at the start of `out`. `bytes` are those of the line.
+// Reads a line, runs it, and puts its answer at the start of `out`. `bytes` are those of the line, and
+// behind them stands the log along the calls.
 pub fn serve(
     before: Served,
     buf: &mut [u8],
@@ -147,5 +175,5 @@ pub fn serve(
     bytes: &mut [u8],
 ) -> Served {
     let line = read_line(before.input, buf, input, output, bytes);
-    answered(line, before.kept, out, input, output, work, table, bytes)
+    answered(line, before, out, input, output, work, table, bytes)
 }

@@ -10,6 +10,8 @@ use crate::progress::progressed;
 use blocks::Reading;
 use cut::KeptFrames;
 use options::Files;
+use pass_line::PassLine;
+use pass_line::Step;
 use state::State;
 use tally::Block;
 use written::write_frames;
@@ -31,7 +33,7 @@ fn not_logged(p: Pass) -> Pass {
     stopped(p)
 }
 
-// The line of a block: s is the record before it.
+// The line of a block: s is the record before it, p the pass with it.
 fn log_block(log: i32, block: u64, s: State, p: Pass, index: f64) -> bool {
     let c = p.counts;
     let numbers = [
@@ -44,10 +46,11 @@ fn log_block(log: i32, block: u64, s: State, p: Pass, index: f64) -> bool {
         c.made,
         c.blocks,
     ];
-    forms::write_form(
+    pass_line::write_block(
         log,
-        b"block # in # out # step $ inc $ index $ N # B #\n",
+        b"block # in # out # step $ inc $ index $ N # B #",
         &numbers,
+        p.line,
     )
 }
 
@@ -69,8 +72,24 @@ fn recorded(p: Pass, files: Files, block: u64, s: State, index: f64) -> Pass {
     not_recorded(p, files, block)
 }
 
-// The pass after an accepted block of the record s, whose frames k are written.
-fn counted(p: Pass, s: State, frames: usize, k: KeptFrames) -> Pass {
+// The line with an accepted block of the record s.
+fn lined(line: PassLine, s: State, index: f64) -> PassLine {
+    pass_line::with_block(
+        line,
+        Step {
+            output: s.output,
+            input: s.input,
+            t: state::step_now(s),
+            d: plan::t_ratio_increment(s),
+            index,
+            ratio: s.current,
+            flat: s.current == s.target,
+        },
+    )
+}
+
+// The pass after an accepted block of the record s, whose frames k are written and which left this index.
+fn counted(p: Pass, s: State, index: f64, frames: usize, k: KeptFrames) -> Pass {
     let counts = p.counts;
     let d = plan::t_ratio_increment(s);
     let block = Block {
@@ -83,6 +102,7 @@ fn counted(p: Pass, s: State, frames: usize, k: KeptFrames) -> Pass {
     };
     let mut q = p;
     q.counts = tally::counted(counts, block);
+    q.line = lined(p.line, s, index);
     if !p.started & (k.from < k.to) {
         q.started = true;
         q.first_used = counts.used;
@@ -117,7 +137,8 @@ pub fn accepted(
     if !write_frames(files.output, output, s.channels, s.output, k.from, k.to) {
         return half_written(p, files);
     }
-    let l = logged(counted(p, s, r.frames, k), files, c.blocks, s, index);
+    let n = counted(p, s, index, r.frames, k);
+    let l = logged(n, files, c.blocks, s, index);
     let q = recorded(l, files, c.blocks, s, index);
     if !q.going {
         return q;

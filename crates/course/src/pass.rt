@@ -4,6 +4,7 @@ use error::Refusal;
 use options::Files;
 use options::say_refused;
 use options::say_start;
+use pass_line::PassLine;
 use schedule::Cursor;
 use state::State;
 use tally::Counts;
@@ -23,6 +24,7 @@ pub struct Plan {
 // to stop, `whole` says that it is at its end, and `good` that nothing is wrong with it.
 pub struct Pass {
     pub counts: Counts,
+    pub line: PassLine,
     pub mask: u64,
     pub held: bool,
     pub ended: bool,

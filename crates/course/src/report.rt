@@ -214,10 +214,11 @@ pub fn ended_well(p: Pass, o: Options, files: Files, changes: &[u64]) -> bool {
     let reached = all_reached(p, files, o.changes, changes);
     let cut = tell_cut(p, o, files);
     let totals = tell_totals(p, files);
+    let line = pass_line::tell_line(files.log, files.log_file, p.line, o.rate);
     let output = closed(files.output, b"resample: closing the output");
     let log = closed(files.log, b"resample: closing the log");
     let passlog = closed(files.passlog, b"resample: closing the pass log");
-    let good = p.good & reached & cut & totals & output & log & passlog;
+    let good = p.good & reached & cut & totals & line & output & log & passlog;
     tell_end(p, good);
     good
 }

@@ -74,8 +74,16 @@ not counted for the cut). A NaN is written as 7ff8000000000000, whatever NaN it 
 
 The log has the words and settings, then a line a block: the frames in and out,
 the step at its start and its increment a frame, the index it leaves, all output
-frames N and blocks B so far. An x and 16 hex digits are a float's bits. A sinc's
-table has a line, with the sum that ./hazivotra table prints.
+frames N and blocks B so far, then three positions in samples of the input: the
+exact one, which is the start index with every step added and nothing rounded,
+the stored one, which is the input frames used and the index, and their distance.
+An x and 16 hex digits are a float's bits; an x, a whole number, a point and 48
+hex digits are a position, exact. A sinc's table has a line, with the sum that
+./hazivotra table prints. At the end stand the line of the pass, whether its
+distance is inside the proved bound, and beside the two what the rounding of
+1/ratio adds (blocks with a ramp pending left out) and what a clock off by one
+part in 10^9 would: in samples, and with --rates in seconds and in metres of
+light path (299792458 a second).
 
 An output, log or pass log that is another file of the pass is refused before
 it is opened. A change that no block reached is told at the end.

@@ -35,9 +35,11 @@ pub struct Place {
 }
 
 // `good` is false where a word was bad. `seen` has the bit of each name that was given. The points are those
-// of the degree or of the sinc; blends and windows have their numbers in the lists of names.
+// of the degree or of the sinc; blends and windows have their numbers in the lists of names. The rate is the
+// input's, in frames a second, 0 where it was not given.
 pub struct Options {
     pub ratio: f64,
+    pub rate: u64,
     pub m: f64,
     pub points: u64,
     pub has_sinc: bool,
@@ -102,6 +104,7 @@ pub fn options_of(r: Reading, slots: &[u64]) -> Options {
     let seen = r.seen;
     Options {
         ratio: text::of_bits(slot_or(slots, 1 << RATIO, RATIO, 0)),
+        rate: behind(slots, RATIO, 32),
         m: text::of_bits(slot_or(slots, seen, M, 0x4000_0000_0000_0000)),
         points: slot_or(
             slots,

@@ -29,7 +29,8 @@ use text::Parsed;
 // What was read so far: the bit of each name that was given, the place of the next word, and how many
 // changes of the ratio. `good` is false once a word was bad. The last name, or 0, and what stands behind
 // it: a count, the bits of a float, the number of a choice; the place of a file's name and where it
-// begins in the word; a block and the bits of a ratio; points, factor and blend.
+// begins in the word; a block and the bits of a ratio; the bits of a ratio and the input's rate; points,
+// factor and blend.
 pub struct Reading {
     pub seen: u64,
     pub next: usize,
@@ -126,13 +127,21 @@ pub fn with_value(r: Reading, name: usize, at: usize, from: usize, word: &[u8]) 
     with_file(r, name, at, from, word)
 }
 
-// `--rates IN OUT`.
+// A rate, 0 where it is no whole number.
+fn rate_of(word: &[u8]) -> u64 {
+    match text::decimal_of(word) {
+        Parsed::Number(n) => n,
+        Parsed::Bad => 0,
+    }
+}
+
+// `--rates IN OUT`: the ratio, and the input's rate beside it.
 fn with_rates(r: Reading, input: &[u8], out: &[u8]) -> Reading {
     let Number::Value(x) = decimals::quotient_of(out, input) else {
         complain(RATES, BAD_RATES);
         return stopped(r);
     };
-    got(r, RATIO, text::bits_of(x), 0)
+    got(r, RATIO, text::bits_of(x), rate_of(input))
 }
 
 // `--at B R` and `--ramp B R`: one change more, if there is room for it.

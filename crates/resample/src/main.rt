@@ -113,7 +113,7 @@ fn begin(
         tell_empty(r.left);
         return false;
     }
-    let p = setup::first_pass(setup::mask_of(o), files, bytes);
+    let p = setup::first_pass(s.index, setup::mask_of(o), files, bytes);
     pass_over(course::run_of(s, p), o, files, changes, table, held, bytes)
 }
 

@@ -114,9 +114,11 @@ pub fn is_ready(s: State, mask: u64, most: usize) -> bool {
 }
 
 // A pass before its first block: one frame of the input is held, and the plan stands before its first line.
-pub fn first_pass(mask: u64, files: Files, bytes: &mut [u8]) -> Pass {
+// The line begins at the index of the construction.
+pub fn first_pass(index: f64, mask: u64, files: Files, bytes: &mut [u8]) -> Pass {
     Pass {
         counts: tally::none_yet(),
+        line: pass_line::started(index),
         mask,
         held: true,
         ended: false,

@@ -2,6 +2,9 @@
 use text::Parsed;
 use text::digit_of;
 
+// The most bytes of a line; what is lent behind them is not theirs.
+pub const MOST: usize = 131072;
+
 // What a word has come to as bytes, behind those of the words before it: nothing yet, a lone `-`, so many
 // bytes in all, so many and the first digit of the next, or that it is none or too long.
 pub enum Bytes {
@@ -31,6 +34,9 @@ fn first_digit(k: usize, digit: u64) -> Bytes {
 // After its second, with which it is stored.
 fn second_digit(bytes: &mut [u8], k: usize, high: u64, digit: u64) -> Bytes {
     if digit > 15 {
+        return Bytes::Bad;
+    }
+    if k >= MOST {
         return Bytes::Bad;
     }
     if k >= bytes.len() {

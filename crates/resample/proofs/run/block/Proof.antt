@@ -34,7 +34,7 @@ same-length-3 : tie.Need-same-length-3
 same-length-3 c = c .before .before .before .before .before .before .before .before .before .before .before .before .read-frames .kept .1 .0
 
 same-length-4 : tie.Need-same-length-4
-same-length-4 c = search needs
+same-length-4 c = c .before .before .before .before .before .before .before .before .before .before .before .before .read-frames .kept .1 .1 .0
 
 returns-2 : tie.Need-returns-2
 returns-2 c = search needs
