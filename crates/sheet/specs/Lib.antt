@@ -1,0 +1,3 @@
+-- How the walk moves on. Definitions only.
+pub mod Walk
+pub mod Turn
