@@ -8,3 +8,4 @@ pub mod Rows
 pub mod Payloads
 pub mod Alone
 pub mod Histories
+pub mod Settled
