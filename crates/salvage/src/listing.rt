@@ -1,5 +1,5 @@
 // The listing on standard output, the records in their file, and what is told of them.
-use crate::walk::Walk;
+use log_parts::Walk;
 use printer::bytes_of;
 use printer::put_byte;
 use printer::put_bytes;

@@ -2,10 +2,8 @@
 // (`--help`).
 mod files;
 mod listing;
-mod part;
 mod progress;
 mod run;
-mod walk;
 mod words;
 
 use words::Words;

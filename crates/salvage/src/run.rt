@@ -6,14 +6,14 @@ use crate::listing::list_skipped;
 use crate::listing::say;
 use crate::listing::say_count;
 use crate::listing::tell_end;
-use crate::part::Part;
-use crate::part::more;
-use crate::part::passed;
 use crate::progress::Clock;
 use crate::progress::clock_now;
 use crate::progress::ticked;
-use crate::walk::Walk;
-use crate::walk::after;
+use log_parts::Part;
+use log_parts::Walk;
+use log_parts::after;
+use log_parts::more;
+use log_parts::passed;
 use log_salvage::Stretch;
 use log_salvage::next_stretch;
 use tally::plus;
@@ -21,7 +21,7 @@ ghost use mathlib.Core.Path.{_≡_};
 ghost use Prim.Native.Nat.{_-_, _<_, _≤_};
 ghost use lib.ListN.{length, take};
 ghost use Rattle.log_salvage.specs.Salvage.{stretchAt};
-ghost use Rattle.salvage.specs.Turn.{Inside, Follows, Turned};
+ghost use Rattle.log_parts.specs.Turn.{Inside, Follows, Turned};
 
 pub struct Run {
     pub walk: Walk,

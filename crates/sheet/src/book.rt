@@ -1,12 +1,12 @@
 // What goes with the walk over a log: the page, the picture's points, the clock, and what was seen of the log.
-use crate::chart::Chart;
-use crate::chart::with_block;
 use crate::files::Log;
 use crate::page::Page;
 use crate::page::with_told;
 use crate::progress::Clock;
 use crate::progress::ticked;
-use crate::walk::Walk;
+use drift_picture::Chart;
+use drift_picture::with_block;
+use log_parts::Walk;
 use log_records::Read;
 use log_records::read_record;
 use sheets::take_record;

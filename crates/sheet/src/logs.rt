@@ -2,7 +2,6 @@
 use crate::book::Book;
 use crate::book::Seen;
 use crate::book::nothing_seen;
-use crate::chart::Chart;
 use crate::files::Log;
 use crate::files::close_log;
 use crate::files::open_log;
@@ -11,7 +10,6 @@ use crate::page::new_page;
 use crate::page::not_whole;
 use crate::page::turned_over;
 use crate::page::with_told;
-use crate::part::Part;
 use crate::progress::clock_now;
 use crate::rows::write_total;
 use crate::run::Run;
@@ -22,6 +20,8 @@ use crate::say::say_count;
 use crate::say::say_word;
 use crate::words::Words;
 use crate::words::is_log;
+use drift_picture::Chart;
+use log_parts::Part;
 use sheets::end_log;
 
 // Says what was skipped of a log, if anything was.

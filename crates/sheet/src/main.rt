@@ -1,21 +1,14 @@
 // Adds up the positions that pass logs tell, line by line, and prints them with their distance and its bound
 // (`--help`).
-mod axes;
 mod book;
-mod chart;
 mod files;
-mod heights;
 mod logs;
 mod page;
-mod part;
-mod pen;
 mod picture;
 mod progress;
 mod rows;
 mod run;
 mod say;
-mod view;
-mod walk;
 mod words;
 
 use words::Words;
@@ -92,8 +85,8 @@ picture is a log, standard output or the --status file: then no file is written.
 
 // Reads the logs and draws the picture, where one is asked for; whether all is well.
 fn is_well(w: Words) -> bool {
-    let mut points = [0u64; chart::ROOM];
-    let b = logs::read_logs(w, chart::new_chart(w.picture > 0), &mut points);
+    let mut points = [0u64; drift_picture::ROOM];
+    let b = logs::read_logs(w, drift_picture::new_chart(w.picture > 0), &mut points);
     let page = b.page;
     let chart = b.chart;
     let sheet = page.sheet;

@@ -4,13 +4,13 @@ use crate::book::with_record;
 use crate::book::with_skipped;
 use crate::book::with_tick;
 use crate::files::Log;
-use crate::part::Part;
-use crate::part::more;
-use crate::part::passed;
 use crate::say::say_count;
 use crate::say::say_word;
-use crate::walk::Walk;
-use crate::walk::after;
+use log_parts::Part;
+use log_parts::Walk;
+use log_parts::after;
+use log_parts::more;
+use log_parts::passed;
 use log_salvage::Stretch;
 use log_salvage::next_stretch;
 use tally::plus;
@@ -18,7 +18,7 @@ ghost use mathlib.Core.Path.{_≡_};
 ghost use Prim.Native.Nat.{_-_, _<_, _≤_};
 ghost use lib.ListN.{length, take};
 ghost use Rattle.log_salvage.specs.Salvage.{stretchAt};
-ghost use Rattle.sheet.specs.Turn.{Inside, Follows, Turned};
+ghost use Rattle.log_parts.specs.Turn.{Inside, Follows, Turned};
 
 pub struct Run {
     pub walk: Walk,

@@ -149,14 +149,7 @@ fn end_of(ends: &[f64], k: usize) -> usize {
 }
 
 // The log number k, which begins where the one before it ends.
-fn put_number(
-    out: &mut [u8],
-    w: Walk,
-    bytes: &[u8],
-    ends: &[f64],
-    from: usize,
-    k: usize,
-) -> Walk {
+fn put_number(out: &mut [u8], w: Walk, bytes: &[u8], ends: &[f64], from: usize, k: usize) -> Walk {
     let to = bytes_of(bytes, end_of(ends, k));
     if from <= to {
         return put_log(out, w, &bytes[from..to]);

@@ -1,6 +1,6 @@
 -- `salvage::run::read_on` meets its contract. Assumes nothing.
 use mathlib.Core.Path.{refl}
-use Rattle.salvage.proofs.Turns.{follows-more}
+use Rattle.log_parts.proofs.Turns.{follows-more}
 use borrow.Author.Needs.{needs}
 use Rattle.salvage.proofs.run.read_on.Statement.{statement}
 use Rattle.salvage.proofs.run.read_on.Tie as tie

@@ -2,9 +2,9 @@
 use mathlib.Core.Path.{_≡_, sym, ap, _∙_}
 use native.Mathlib.Omega.{arith}
 use lib.ListN.{length-take}
-use Rattle.salvage.specs.Walk.{lengthOf}
-use Rattle.salvage.proofs.Stretches.{stretch-within, stretch-short}
-use Rattle.salvage.proofs.Turns.{inside-on, inside-stay, follows-stay, follows-on, turned}
+use Rattle.log_parts.specs.Walk.{lengthOf}
+use Rattle.log_parts.proofs.Stretches.{stretch-within, stretch-short}
+use Rattle.log_parts.proofs.Turns.{inside-on, inside-stay, follows-stay, follows-on, turned}
 use borrow.Author.Needs.{needs}
 use Rattle.salvage.proofs.run.turn.Statement.{statement}
 use Rattle.salvage.proofs.run.turn.Tie as tie

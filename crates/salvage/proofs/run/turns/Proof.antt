@@ -2,7 +2,7 @@
 use mathlib.Core.Path.{_≡_}
 use lib.ListN.{length}
 use borrow.Author.Needs.{needs}
-use Rattle.salvage.specs.Turn.{Inside}
+use Rattle.log_parts.specs.Turn.{Inside}
 use Rattle.salvage.proofs.run.turns.Statement.{statement}
 use Rattle.salvage.proofs.run.turns.Tie as tie
 

@@ -1,4 +1,0 @@
--- What the proofs cite.
-pub mod Fronts
-pub mod Stretches
-pub mod Turns

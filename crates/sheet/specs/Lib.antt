@@ -1,3 +1,0 @@
--- How the walk moves on. Definitions only.
-pub mod Walk
-pub mod Turn
