@@ -35,9 +35,11 @@ fn checked(s: Served, tally: Tally, buf: &mut [u8], out: &[u8]) -> Replayed {
     let from = s.input;
     let found = compare(buf, from, &out[..n]);
     let kept = s.kept;
+    let live = s.live;
     let input = found.input;
     let served = Served {
         kept,
+        live,
         input,
         end: s.end,
     };
