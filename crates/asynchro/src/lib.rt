@@ -1,4 +1,5 @@
 // The ratio state's settings. Document 01: "Ratio changes", "Refusal numbers".
+#![tactic(auto)]
 ghost use Rattle.std.specs.Prelude.{◌≡◌};
 ghost use Rattle.state.specs.Record.{said_made};
 ghost use Rattle.asynchro.specs.Calls.{
@@ -16,14 +17,14 @@ use error::Refusal;
 use state::{Made, State};
 
 // What a setting answers.
-#[derive(Drop)]
+#[derive(Clone, Copy)]
 pub enum Done {
     Accepted,
     Refused(Refusal),
 }
 
 // What a call on a record leaves: the new record, or on a refusal the record given.
-#[derive(Drop)]
+#[derive(Clone, Copy)]
 pub struct Outcome {
     pub state: State,
     pub answer: Done,

@@ -1,4 +1,5 @@
 // The five kernels of the polynomial resampler, and the choice among them by the degree.
+#![tactic(auto)]
 ghost use Rattle.std.specs.Prelude.{◌≡◌, length};
 ghost use Rattle.exact.specs.Samples.{linear};
 ghost use Rattle.error.specs.Refusals.{said_answer};
@@ -8,7 +9,7 @@ ghost use Rattle.asynchro_fast.specs.Kernels.{cubic, interp_of, kernel_said};
 use error::{Answer, Refusal};
 
 // The degree of the polynomial. A higher one fits more samples and takes longer.
-#[derive(Drop)]
+#[derive(Clone, Copy)]
 pub enum PolynomialDegree {
     // The one sample, with no fitting.
     Nearest,

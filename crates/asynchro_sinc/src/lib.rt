@@ -1,5 +1,6 @@
 // The sinc side's small arithmetic: which blends of grid points there are, the blends themselves, and what
 // each point counts for in one. The parameter record is in the crate sinc_parameters.
+#![tactic(auto)]
 ghost use Rattle.std.specs.Prelude.{◌≡◌};
 ghost use Rattle.exact.specs.Samples.{line_on, linear};
 ghost use Rattle.error.specs.Refusals.{said_answer};
@@ -8,7 +9,7 @@ ghost use Rattle.asynchro_sinc.specs.Blends.{cubic_on, quad_on, sinc_cubic, sinc
 use error::{Answer, Refusal};
 
 // How the value between grid points is found.
-#[derive(Drop)]
+#[derive(Clone, Copy)]
 pub enum SincInterpolationType {
     // A cubic through the four nearest grid points.
     Cubic,

@@ -10,7 +10,7 @@ use samples::takes;
 // Whole frames that were read; whether a further one stands in `held`; whether no whole frame is behind the
 // last one; the bytes of a broken frame at the end; whether the input starts as a WAV file does; whether a
 // read failed, or there was no place to read to.
-#[derive(Drop)]
+#[derive(Clone, Copy)]
 pub struct Reading {
     pub frames: usize,
     pub held: bool,

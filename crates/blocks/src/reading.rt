@@ -5,7 +5,7 @@ ghost use Rattle.blocks.specs.Blocks.{PieceRead, PiecesRead};
 use samples::{least, samples_in, spread};
 
 // So many bytes have been read. `open` says that there may be more, `failed` that a read failed.
-#[derive(Drop)]
+#[derive(Clone, Copy)]
 struct Filled {
     count: usize,
     open: bool,
@@ -14,7 +14,7 @@ struct Filled {
 
 // What stands in an area: so many samples, counted from its first one, and the bytes of a broken one behind
 // them; and whether the input is over.
-#[derive(Drop)]
+#[derive(Clone, Copy)]
 pub struct Piece {
     pub samples: usize,
     pub rest: usize,

@@ -1,5 +1,6 @@
 // What each line of the call script does, over the public calls alone: the record, the working area and
 // the table that are kept, and the answer.
+#![tactic(auto)]
 mod answer;
 mod leaves;
 mod noted;
@@ -20,7 +21,7 @@ use sheet_words::Live;
 
 // What is kept from line to line, the line and the log along the calls, and the input behind the line. The
 // answer has `end` bytes; it has none once the input is over.
-#[derive(Drop)]
+#[derive(Clone, Copy)]
 pub struct Served {
     pub kept: Kept,
     pub live: Live,

@@ -16,7 +16,7 @@ use state::{Made, State};
 const MOST: usize = 131072;
 
 // The record, and how many samples the working area and the table have.
-#[derive(Drop)]
+#[derive(Clone, Copy)]
 pub struct Kept {
     pub state: State,
     pub len: usize,
@@ -24,7 +24,7 @@ pub struct Kept {
 }
 
 // What a command leaves, and what it says.
-#[derive(Drop)]
+#[derive(Clone, Copy)]
 pub struct Change {
     pub kept: Kept,
     pub said: Said,

@@ -4,7 +4,7 @@ use error::{Answer, Refusal};
 use questions::Count;
 
 // The first word of an answer.
-#[derive(Drop)]
+#[derive(Clone, Copy)]
 pub enum Head {
     // There is no line any more, and no answer.
     Over,
@@ -18,7 +18,7 @@ pub enum Head {
 // 1 a float, by its bits; 2 a float that is put behind the one before it, as the samples of an area are;
 // 3 a whole number; 4 one below 0, by its size; 5 the first so many samples of an area that is lent
 // beside. Behind the last word stands 0. A block's answer has the most words.
-#[derive(Drop)]
+#[derive(Clone, Copy)]
 pub struct Said {
     pub head: Head,
     pub count: usize,

@@ -3,6 +3,7 @@
 // the channels, the chunk and the blocks: `8 0 0 0 2 1024 5` or `0 64 128 4 2 1024 5`. The ratio is 0.9, the
 // relative maximum 1.1, and the output side is fixed. It prints the sizes of the next block and the sum of
 // the last one's output, and on standard error that a call was refused. Every function here is proved safe.
+#![tactic(auto)]
 mod numbers;
 
 use libc::{STDERR_FILENO, STDOUT_FILENO};
@@ -14,7 +15,7 @@ use state::{Made, State};
 use table_sum::TableSum;
 
 // The record behind the blocks so far, and whether all were accepted.
-#[derive(Drop)]
+#[derive(Clone, Copy)]
 struct Turn {
     state: State,
     good: bool,

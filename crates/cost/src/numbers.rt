@@ -3,7 +3,7 @@ use libc::STDIN_FILENO;
 use script::values::Values;
 
 // The numbers so far, and the place of the one that is being read.
-#[derive(Drop)]
+#[derive(Clone, Copy)]
 struct Reading {
     values: Values,
     at: usize,

@@ -1,6 +1,7 @@
 // What a pass keeps from block to block beside the areas: its counts, the changes before a block and the plan
 // that they come from, which frames are written, their line and record, progress, and the log's head and end.
 // That each function is safe and ends is proved.
+#![tactic(auto)]
 mod block;
 mod changes;
 mod kept;

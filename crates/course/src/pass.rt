@@ -8,7 +8,7 @@ use tally::Counts;
 
 // The next line of the plan: 1 sets the ratio, 2 ramps to it, 3 sets the mask, 0 is no line and 4 one that
 // could not be read. `reached` is one more than the block of the last line that was followed.
-#[derive(Drop)]
+#[derive(Clone, Copy)]
 pub struct Plan {
     pub kind: u64,
     pub block: u64,
@@ -20,7 +20,7 @@ pub struct Plan {
 // `held` is a frame of the input that was read ahead; `ended` says that none is behind it. The first frame
 // written stands at `first_used` input frames and the index `first_index`. `going` is false once the pass is
 // to stop, `whole` says that it is at its end, and `good` that nothing is wrong with it.
-#[derive(Drop)]
+#[derive(Clone, Copy)]
 pub struct Pass {
     pub counts: Counts,
     pub line: PassLine,
@@ -38,7 +38,7 @@ pub struct Pass {
 }
 
 // The record and the rest.
-#[derive(Drop)]
+#[derive(Clone, Copy)]
 pub struct Run {
     pub state: State,
     pub pass: Pass,

@@ -4,7 +4,7 @@ use crate::pass::Plan;
 use options::say_start;
 
 // The line read last, and the one before it.
-#[derive(Drop)]
+#[derive(Clone, Copy)]
 struct Look {
     plan: Plan,
     last: u64,

@@ -2,6 +2,7 @@
 // block plus the frame's index; a pass is cut to the frames from -2^-20 up to, and not including, the
 // number of input frames less 2^-20. No position is summed up: the limits are taken to the block instead,
 // where they are doubles without rounding.
+#![tactic(auto)]
 ghost use Rattle.std.specs.Prelude.{◌≡◌, suc, min};
 ghost use Rattle.path.specs.Path.{path_at};
 ghost use Rattle.cut.specs.Cut.{limit_of, leading, kept_of};
@@ -11,7 +12,7 @@ use state::State;
 
 // The frames `from` up to, and not including, `to` are kept. `index` is that of the frame `from`; where the
 // block has no such frame, the one that its next frame would have.
-#[derive(Drop)]
+#[derive(Clone, Copy)]
 pub struct KeptFrames {
     pub from: usize,
     pub to: usize,
@@ -19,7 +20,7 @@ pub struct KeptFrames {
 }
 
 // How many frames come before the first one that is not below a limit, and that one's index.
-#[derive(Drop)]
+#[derive(Clone, Copy)]
 struct Lead {
     count: usize,
     index: f64,

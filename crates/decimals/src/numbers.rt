@@ -6,7 +6,7 @@ use crate::nearest::nearest;
 use text::Parsed;
 
 // The double of a word, or that the word is none.
-#[derive(Drop)]
+#[derive(Clone, Copy)]
 pub enum Number {
     Value(f64),
     Bad,

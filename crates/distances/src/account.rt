@@ -5,7 +5,7 @@ use process::Ran;
 use state::State;
 
 // `good` says that no call was refused.
-#[derive(Drop)]
+#[derive(Clone, Copy)]
 pub struct Account {
     pub state: State,
     pub lined: Lined,

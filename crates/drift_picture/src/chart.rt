@@ -14,7 +14,7 @@ pub const ROOM: usize = 4096;
 
 // The output frames so far, how high the distance and the bound stand, and, where a line begins in the point's
 // blocks, one more than the frames before it, else 0.
-#[derive(Drop)]
+#[derive(Clone, Copy)]
 pub struct Point {
     pub at: u64,
     pub apart: u64,
@@ -24,7 +24,7 @@ pub struct Point {
 
 // Whether there is a picture; how many points are kept, and of how many blocks each is; and the point that is
 // not kept yet, with how many blocks it has.
-#[derive(Drop)]
+#[derive(Clone, Copy)]
 pub struct Chart {
     pub on: bool,
     pub count: usize,

@@ -1,5 +1,6 @@
 // The picture of the sheet: the points that blocks leave, and the distance and its bound over the output frames, as
 // the text of an SVG.
+#![tactic(auto)]
 mod axes;
 mod chart;
 mod heights;

@@ -5,7 +5,7 @@ ghost use Rattle.std.specs.Prelude.{◌≤◌};
 use crate::chart::{Point, point_at};
 
 // The output frames along the field, and the powers of ten at its bottom and top, counted from 10^-58.
-#[derive(Drop)]
+#[derive(Clone, Copy)]
 pub struct View {
     pub frames: u64,
     pub low: u64,
@@ -13,7 +13,7 @@ pub struct View {
 }
 
 // The lowest height that is no 0, and the highest; both 0 where there is none yet.
-#[derive(Drop)]
+#[derive(Clone, Copy)]
 struct Span {
     low: u64,
     high: u64,

@@ -1,10 +1,11 @@
 // The refusals of document 01, each with the floats that it carries, and the answer of a call that
 // gives one double.
+#![tactic(auto)]
 ghost use Rattle.std.specs.Prelude.{◌≡◌, [], ◌∷◌};
 ghost use Rattle.error.specs.Refusals.{number_of, values_of, padded};
 
 // Document 01, "Refusal numbers".
-#[derive(Drop)]
+#[derive(Clone, Copy)]
 pub enum Refusal {
     InvalidRatio(f64),
     InvalidRelativeRatio(f64),
@@ -20,14 +21,14 @@ pub enum Refusal {
 }
 
 // What a leaf answers: its value, or why not.
-#[derive(Drop)]
+#[derive(Clone, Copy)]
 pub enum Answer {
     Value(f64),
     Refused(Refusal),
 }
 
 // The floats that a refusal carries: the first `count` of `values`, the others 0.0.
-#[derive(Drop)]
+#[derive(Clone, Copy)]
 pub struct Carried {
     pub count: usize,
     pub values: [f64; 3],

@@ -1,6 +1,7 @@
 // What the system tells of a file: enough to see that two names or descriptors are one file.
 //
 // No contract says what the system answers, so of `facts_of` and `facts_at` only safety is proved.
+#![tactic(auto)]
 mod asked;
 mod name;
 mod taken;
@@ -8,7 +9,7 @@ mod taken;
 ghost use Rattle.std.specs.Prelude.{◌≡◌};
 ghost use Rattle.file_facts.specs.Same.{one_file, same_kept, regular};
 
-#[derive(Drop)]
+#[derive(Clone, Copy)]
 pub struct Facts {
     // Whether the system told of the file. Where it did not, the rest is 0.
     pub known: bool,

@@ -1,4 +1,5 @@
 // Where the samples of a frame's grid points lie, for a sinc. Only our own crates call these.
+#![tactic(auto)]
 ghost use Rattle.std.specs.Prelude.{◌≡◌, ◌<◌, nat_le};
 ghost use Rattle.interpolation.specs.Grid.{nearest1, nearest2, nearest3, nearest4};
 ghost use Rattle.grid_places.specs.Spots.{
@@ -16,14 +17,14 @@ use interpolation::{Point, Times1, Times2, Times3, Times4};
 
 // A grid point: where its samples begin in a channel's working area, and its row of the table; or that
 // its samples are not all there.
-#[derive(Drop)]
+#[derive(Clone, Copy)]
 pub enum Spot {
     Held(usize, usize),
     Lost,
 }
 
 // The grid points of a frame, one to four, and the blend place; or that the index has none.
-#[derive(Drop)]
+#[derive(Clone, Copy)]
 pub enum Spots {
     One(Spot),
     Two(Spot, Spot, f64),

@@ -1,6 +1,7 @@
 // The points of the grid nearest to a time t, one to four of them. Between two whole times the grid
 // has `factor` points; point number q of the grid is `index` whole times and `subindex` parts of one:
 // q = index * factor + subindex. q can pass 2^64, so it is never formed: index and subindex stay apart.
+#![tactic(auto)]
 ghost use Rattle.std.specs.Prelude.{◌≡◌, ◌≤◌, true, pos, ◌+ℤ◌, ◌-ℤ◌};
 ghost use Rattle.interpolation.specs.Grid.{in_range, point_of, said_times1, said_times2, said_times3, said_times4, nearest1, nearest2, nearest3, nearest4};
 ghost use Rattle.interpolation.specs.Steps.{inner_of, whole_by, begin_of, start_q, Ready};
@@ -8,32 +9,32 @@ ghost use Rattle.interpolation.specs.Steps.{inner_of, whole_by, begin_of, start_
 use error::Refusal;
 
 // A point of the grid.
-#[derive(Drop)]
+#[derive(Clone, Copy)]
 pub struct Point {
     pub index: i64,
     pub subindex: u64,
 }
 
 // What the four functions answer: their points in order, or why not.
-#[derive(Drop)]
+#[derive(Clone, Copy)]
 pub enum Times1 {
     At(Point),
     Refused(Refusal),
 }
 
-#[derive(Drop)]
+#[derive(Clone, Copy)]
 pub enum Times2 {
     At(Point, Point),
     Refused(Refusal),
 }
 
-#[derive(Drop)]
+#[derive(Clone, Copy)]
 pub enum Times3 {
     At(Point, Point, Point),
     Refused(Refusal),
 }
 
-#[derive(Drop)]
+#[derive(Clone, Copy)]
 pub enum Times4 {
     At(Point, Point, Point, Point),
     Refused(Refusal),
@@ -41,14 +42,14 @@ pub enum Times4 {
 
 // Where q lies: so many whole times, and so many parts after that. A fraction that rounds to 1.0
 // makes as many parts as there are in a whole time.
-#[derive(Drop)]
+#[derive(Clone, Copy)]
 struct Start {
     index: i64,
     parts: u64,
 }
 
 // floor(t), and the product (t - floor(t))*factor.
-#[derive(Drop)]
+#[derive(Clone, Copy)]
 struct Inner {
     index: i64,
     product: f64,

@@ -1,11 +1,12 @@
 // What a record resamples by: a polynomial, or a sinc over a lent table.
+#![tactic(auto)]
 ghost use Rattle.std.specs.Prelude.{◌≡◌, true};
 ghost use Rattle.kinds.specs.Kinds.{points_of, sinc_holds, kind_holds, table_of};
 
 use asynchro_fast::PolynomialDegree;
 use asynchro_sinc::SincInterpolationType;
 
-#[derive(Drop)]
+#[derive(Clone, Copy)]
 pub enum Kind {
     // A polynomial of this degree.
     Polynomial(PolynomialDegree),

@@ -1,4 +1,5 @@
 // A line of the sheet: what is added up along one stream from its start, of a log's records or of live calls.
+#![tactic(auto)]
 mod adding;
 
 ghost use Rattle.std.specs.Prelude.{◌≡◌};
@@ -12,7 +13,7 @@ use positions::{FromDouble, distance, of_double};
 
 // How a line ends, or why a record is no call: the log ended, a start closed it, a block before any start, a
 // payload of another length, a float that is no position, a number that would leave its range.
-#[derive(Drop)]
+#[derive(Clone, Copy)]
 pub enum End {
     Open,
     Closed,
@@ -24,7 +25,7 @@ pub enum End {
 
 // The output frames N, the blocks B, the input sizes answered, the exact and the stored position and the
 // bound of their distance, these three in units of 2^-192.
-#[derive(Drop)]
+#[derive(Clone, Copy)]
 pub struct Line {
     pub frames: u64,
     pub blocks: u64,
@@ -35,14 +36,14 @@ pub struct Line {
 }
 
 // A line that goes on, or what it ends with.
-#[derive(Drop)]
+#[derive(Clone, Copy)]
 pub enum Lined {
     On(Line),
     Ended(End),
 }
 
 // Two factors of a number.
-#[derive(Drop)]
+#[derive(Clone, Copy)]
 pub struct Factors {
     pub j: u32,
     pub k: u32,

@@ -5,7 +5,7 @@ use printer::put_bytes;
 
 // The bytes up to `end` were read, and those up to `at` are walked. `last` says that the log ends there, since
 // it does or since a read failed, as `failed` says.
-#[derive(Drop)]
+#[derive(Clone, Copy)]
 pub struct Part {
     pub at: usize,
     pub end: usize,

@@ -7,7 +7,7 @@ use tally::plus;
 
 // The bytes in front of `place`, counted from the log's start, are walked. Those of them from `from` on are
 // skipped, and not listed or counted yet.
-#[derive(Drop)]
+#[derive(Clone, Copy)]
 pub struct Walk {
     pub from: u64,
     pub place: u64,

@@ -1,5 +1,6 @@
 // Salvage of a pass log: a walk from stretch to stretch that is lent the log alone and needs no room of its
 // own; who calls it copies.
+#![tactic(auto)]
 ghost use Rattle.std.specs.Prelude.{not, ◌≡◌, ◌+◌, ◌<◌, length, drop};
 ghost use Rattle.log_salvage.specs.Salvage.{stops_at, skips, stretch_at};
 
@@ -7,7 +8,7 @@ use log_records::length_at;
 
 // A stretch of the log, by its start and its length: skipped, or a record that is kept. At the end there is
 // none any more.
-#[derive(Drop)]
+#[derive(Clone, Copy)]
 pub enum Stretch {
     Skipped(usize, usize),
     Kept(usize, usize),

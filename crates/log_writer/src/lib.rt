@@ -1,4 +1,5 @@
 // The writer of the pass log: a record put at the front of lent bytes.
+#![tactic(auto)]
 ghost use Rattle.std.specs.Prelude.{true, ◌≡◌, ◌∷◌, ◌++◌, ◌+◌, ◌≤◌, length, drop};
 ghost use Rattle.log_records.specs.Records.{two_of, is_kind, sum_of, record_of};
 ghost use Rattle.log_writer.specs.Writer.{number_of, said_put, put_said, put_area};
@@ -7,7 +8,7 @@ use log_records::{is_kind, total_of};
 use printer::put_bytes;
 
 // Why the writer refused.
-#[derive(Drop)]
+#[derive(Clone, Copy)]
 pub enum Refused {
     UnknownKind,
     PayloadTooLong,
@@ -15,7 +16,7 @@ pub enum Refused {
 }
 
 // What the writer answers: how many bytes the record has, or why it wrote none.
-#[derive(Drop)]
+#[derive(Clone, Copy)]
 pub enum Put {
     Done(usize),
     Not(Refused),

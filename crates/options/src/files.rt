@@ -6,7 +6,7 @@ use file_facts::Facts;
 
 // Where samples come from and go to, where the log and the pass log go, the plan and the table; -1 is none.
 // `input_bytes` is the input's size where it is a regular file, else 0. `good` says that each is open.
-#[derive(Drop)]
+#[derive(Clone, Copy)]
 pub struct Files {
     pub input: i32,
     pub output: i32,

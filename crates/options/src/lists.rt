@@ -3,7 +3,7 @@ use printer::put_byte;
 
 // Where a search stands: the number of the text, how many of its bytes were seen and whether they are
 // the word's, and the number of the text that was found, 0 for none.
-#[derive(Drop)]
+#[derive(Clone, Copy)]
 struct Search {
     item: usize,
     at: usize,
@@ -12,7 +12,7 @@ struct Search {
 }
 
 // Where copying stands: the number of the text, and the place behind what was put.
-#[derive(Drop)]
+#[derive(Clone, Copy)]
 struct Copying {
     item: usize,
     at: usize,

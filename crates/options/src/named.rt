@@ -3,7 +3,7 @@ use crate::messages::{say, say_start};
 use crate::options::Place;
 use file_facts::Facts;
 
-#[derive(Drop)]
+#[derive(Clone, Copy)]
 pub enum Act {
     Read,
     Write,
@@ -11,7 +11,7 @@ pub enum Act {
 }
 
 // A descriptor, or -1; `made` says that the file was not there before.
-#[derive(Drop)]
+#[derive(Clone, Copy)]
 pub struct Opened {
     pub fd: i32,
     pub made: bool,

@@ -8,7 +8,7 @@ use crate::slots::{behind, has, slot_or};
 
 // Where a file is named: the word's place, and where the name begins in it. `at` is 0 where none is
 // named, or `-`.
-#[derive(Drop)]
+#[derive(Clone, Copy)]
 pub struct Place {
     pub at: usize,
     pub from: usize,
@@ -17,7 +17,7 @@ pub struct Place {
 // `good` is false where a word was bad. `seen` has the bit of each name that was given. The points are those
 // of the degree or of the sinc; blends and windows have their numbers in the lists of names. The rate is the
 // input's, in frames a second, 0 where it was not given.
-#[derive(Drop)]
+#[derive(Clone, Copy)]
 pub struct Options {
     pub ratio: f64,
     pub rate: u64,

@@ -13,7 +13,7 @@ use text::Parsed;
 // it: a count, the bits of a float, the number of a choice; the place of a file's name and where it
 // begins in the word; a block and the bits of a ratio; the bits of a ratio and the input's rate; points,
 // factor and blend.
-#[derive(Drop)]
+#[derive(Clone, Copy)]
 pub struct Reading {
     pub seen: u64,
     pub next: usize,

@@ -5,7 +5,7 @@ use crate::options::Place;
 use printer::{bytes_of, put_byte};
 
 // Whether the next word is left out, how many spaces stand before it, and whether all was written.
-#[derive(Drop)]
+#[derive(Clone, Copy)]
 struct Telling {
     skip: bool,
     space: usize,

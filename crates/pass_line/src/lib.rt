@@ -1,6 +1,7 @@
 // The line of a pass: its exact and its stored position from the construction on, block by block, what the
 // rounding of 1/ratio adds beside them, and how both are told. That each function is safe and ends is proved;
 // what a line holds is `lines`' to prove.
+#![tactic(auto)]
 mod numbers;
 mod quotients;
 mod told;
@@ -13,7 +14,7 @@ pub use told::{tell_line, write_block};
 // while it goes on, 1 where it ended with Float and 2 with Range; `now` says that the last block ended it.
 // `rounding` is the sum of n*(t - 1/r) over the blocks of n frames with no ramp pending, of the ratio r and its
 // step t; the blocks with a ramp pending, and their frames, are counted beside it.
-#[derive(Drop)]
+#[derive(Clone, Copy)]
 pub struct PassLine {
     pub line: Line,
     pub start: Big,
@@ -26,7 +27,7 @@ pub struct PassLine {
 
 // An accepted block: its sizes, its starting step, its increment, the index that it left, its ratio, and
 // whether no ramp is pending.
-#[derive(Drop)]
+#[derive(Clone, Copy)]
 pub struct Step {
     pub output: usize,
     pub input: usize,

@@ -2,14 +2,14 @@
 use printer::{bytes_of, put_byte, put_bytes, put_decimal};
 
 // A size from 1 to 10 and its power of ten, 400 standing for none.
-#[derive(Drop)]
+#[derive(Clone, Copy)]
 struct Scaled {
     x: f64,
     e: u64,
 }
 
 // Four digits as a number, and the power of ten of the first.
-#[derive(Drop)]
+#[derive(Clone, Copy)]
 struct Digits {
     m: u64,
     e: u64,

@@ -1,5 +1,6 @@
 // The table of a pass by a sinc: read from a file or built, and named in the log. That each function is safe and
 // ends is proved.
+#![tactic(auto)]
 use error::Answer;
 use options::{Options, say, say_refused, say_start};
 use printer::samples_of;
@@ -76,7 +77,7 @@ fn is_built(o: Options, table: &mut [f64]) -> bool {
 
 // What was read of a file: so many entries, the bytes of a broken one behind them, whether there are more, and
 // whether a read failed.
-#[derive(Drop)]
+#[derive(Clone, Copy)]
 struct Got {
     entries: u64,
     left: u64,

@@ -1,4 +1,5 @@
 // The index path of a block, where a frame's samples lie, and Reach. Only our own crates call these.
+#![tactic(auto)]
 ghost use Rattle.std.specs.Prelude.{◌≡◌, true, ◌<◌, ◌≤◌, length};
 ghost use Rattle.kinds.specs.Kinds.{kind_holds};
 ghost use Rattle.path.specs.Path.{step_index, path_at};
@@ -16,42 +17,42 @@ use grid_places::Spots;
 use kinds::Kind;
 
 // Where a block is between two frames: the index, and the step that led to it.
-#[derive(Drop)]
+#[derive(Clone, Copy)]
 pub struct Moment {
     pub index: f64,
     pub step: f64,
 }
 
 // Where a kernel's neighbours begin and its fraction, or that they are not all there.
-#[derive(Drop)]
+#[derive(Clone, Copy)]
 pub enum Place {
     At(usize, f64),
     Out,
 }
 
 // The indexes from `least` on and below `end`.
-#[derive(Drop)]
+#[derive(Clone, Copy)]
 pub struct Span {
     pub least: f64,
     pub end: f64,
 }
 
 // Where a frame's samples lie: the neighbours of a kernel, or the grid points of a sinc of so many points.
-#[derive(Drop)]
+#[derive(Clone, Copy)]
 pub enum Site {
     Kernel(PolynomialDegree, Place),
     Grid(usize, Spots),
 }
 
 // What a look along the path finds: whether every frame is in reach, and the index after the last.
-#[derive(Drop)]
+#[derive(Clone, Copy)]
 pub struct Looked {
     pub reach: bool,
     pub index: f64,
 }
 
 // What a walk along the path finds: the moment after the last frame, and whether every frame has its place.
-#[derive(Drop)]
+#[derive(Clone, Copy)]
 pub struct Walked {
     pub after: Moment,
     pub reach: bool,

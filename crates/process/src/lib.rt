@@ -1,5 +1,6 @@
 // The block run and reset. Two passes: the first (crate plan) works out every refusal and the record to
 // come and writes nothing; the second writes.
+#![tactic(auto)]
 ghost use Rattle.std.specs.Prelude.{◌≡◌, true, length};
 ghost use Rattle.state.specs.Record.{is_state};
 ghost use Rattle.shape.specs.Shape.{shape_holds};
@@ -17,21 +18,21 @@ use error::Refusal;
 use state::{Made, State};
 
 // The two sizes that a block used.
-#[derive(Drop)]
+#[derive(Clone, Copy)]
 pub struct Sizes {
     pub input: usize,
     pub output: usize,
 }
 
 // What a block answers.
-#[derive(Drop)]
+#[derive(Clone, Copy)]
 pub enum Ran {
     Used(Sizes),
     Refused(Refusal),
 }
 
 // What a block leaves: the new record, or on a refusal the record given.
-#[derive(Drop)]
+#[derive(Clone, Copy)]
 pub struct BlockOutcome {
     pub state: State,
     pub answer: Ran,

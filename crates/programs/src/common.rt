@@ -7,7 +7,7 @@ const HELP: usize = 3;
 
 // What was read so far: the places of the files' names, 0 where none is given; which of --out and --status
 // wants its file's name next, 0 for none. `good` is false once a word was bad.
-#[derive(Drop)]
+#[derive(Clone, Copy)]
 pub struct Common {
     pub out: usize,
     pub status: usize,

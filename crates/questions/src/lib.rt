@@ -1,5 +1,6 @@
 // The questions about a ratio state: each is refused 11 or 10 for a record that no accepted call leaves,
 // and for nothing else.
+#![tactic(auto)]
 ghost use Rattle.std.specs.Prelude.{◌≡◌};
 ghost use Rattle.error.specs.Refusals.{said_answer};
 ghost use Rattle.sizes.specs.Sizes.{frames_of, delay_of};
@@ -10,7 +11,7 @@ use error::{Answer, Refusal};
 use state::State;
 
 // What a question about a number of frames or channels answers.
-#[derive(Drop)]
+#[derive(Clone, Copy)]
 pub enum Count {
     Number(usize),
     Refused(Refusal),

@@ -2,7 +2,7 @@
 use script::reader::{Input, read_byte};
 
 // So many bytes were read after the mark, all of them as in the port's answer where `same` is true.
-#[derive(Drop)]
+#[derive(Clone, Copy)]
 pub struct Compared {
     pub input: Input,
     pub at: usize,

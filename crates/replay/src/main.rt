@@ -1,6 +1,7 @@
 // Runs a stored list of calls through the public calls, and counts the answers that are as stored. On
 // standard input each line of the call script (docs/CALLS.md) is followed by a line with its answer:
 // after `=` the crate's own, after `:` that of document 01 where the crate has none or another.
+#![tactic(auto)]
 mod expected;
 mod report;
 
@@ -10,7 +11,7 @@ use printer::bytes_of;
 use report::{Tally, none_yet, print, with};
 
 // What is kept from line to line. `going` is false once the list is over.
-#[derive(Drop)]
+#[derive(Clone, Copy)]
 struct Replayed {
     served: Served,
     tally: Tally,

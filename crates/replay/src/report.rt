@@ -2,7 +2,7 @@
 use libc::STDOUT_FILENO;
 
 // `first` is the number of the first answer that is another, 0 where there is none.
-#[derive(Drop)]
+#[derive(Clone, Copy)]
 pub struct Tally {
     pub crates: u64,
     pub crates_same: u64,

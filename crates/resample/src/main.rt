@@ -1,4 +1,5 @@
 // Samples in, samples out, at another rate: the words of the command line say how (`--help`).
+#![tactic(auto)]
 mod run;
 mod setup;
 

@@ -1,5 +1,6 @@
 // The two kernels that are given by rows of whole numbers, Septic and Quintic. Only our own crates call
 // these functions.
+#![tactic(auto)]
 ghost use Rattle.std.specs.Prelude.{◌≡◌, length};
 ghost use Rattle.exact.specs.Doubles.{◌+f◌, ◌*f◌};
 ghost use Rattle.rows.specs.Rows.{term, row_sum, horner, septic, quintic};
@@ -27,7 +28,7 @@ const QUINTIC: [[i32; 6]; 6] = [
 ];
 
 // A row's sum so far: nothing yet where `any` is false, so that no term is added to 0.0.
-#[derive(Drop)]
+#[derive(Clone, Copy)]
 struct Part {
     any: bool,
     sum: f64,

@@ -6,7 +6,7 @@ use programs::Common;
 
 // The log, and where its records go. `size` is the log's where it is a regular file, else 0. `good` says that
 // both are open.
-#[derive(Drop)]
+#[derive(Clone, Copy)]
 pub struct Files {
     pub input: i32,
     pub output: i32,

@@ -5,7 +5,7 @@ use tally::plus;
 
 // How much was listed: records that are kept and their bytes, stretches that are skipped and theirs. `good` is
 // false once something could not be written.
-#[derive(Drop)]
+#[derive(Clone, Copy)]
 pub struct Listed {
     pub records: u64,
     pub kept: u64,

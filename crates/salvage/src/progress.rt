@@ -2,7 +2,7 @@
 use crate::listing::{say, say_count};
 
 // The clock's second that was seen last, and how many others were seen before.
-#[derive(Drop)]
+#[derive(Clone, Copy)]
 pub struct Clock {
     pub second: i64,
     pub ticks: u64,

@@ -10,7 +10,7 @@ use log_parts::{Part, Walk, after, more, passed};
 use log_salvage::{Stretch, next_stretch};
 use tally::plus;
 
-#[derive(Drop)]
+#[derive(Clone, Copy)]
 pub struct Run {
     pub walk: Walk,
     pub part: Part,

@@ -2,7 +2,7 @@
 use programs::Common;
 
 // The place of the log's name, 0 where none is given, and the other words.
-#[derive(Drop)]
+#[derive(Clone, Copy)]
 pub struct Words {
     pub file: usize,
     pub common: Common,

@@ -19,7 +19,7 @@ use text::Parsed;
 
 // A change before a block: a ratio at once, a ratio by a ramp, or the mask from there on. Blank lines say
 // nothing; the others are bad.
-#[derive(Drop)]
+#[derive(Clone, Copy)]
 pub enum Entry {
     At(u64, f64),
     Ramp(u64, f64),
@@ -29,7 +29,7 @@ pub enum Entry {
 }
 
 // The first word of a line.
-#[derive(Drop)]
+#[derive(Clone, Copy)]
 enum Name {
     At,
     Ramp,

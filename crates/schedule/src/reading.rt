@@ -6,7 +6,7 @@ use samples::least;
 
 // Where the reading stands: the bytes at `at` up to `end` of the buffer are not yet used; `line` is the number
 // of the line read last; `ended` says that there is no more to read, `failed` that a read failed.
-#[derive(Drop)]
+#[derive(Clone, Copy)]
 pub struct Cursor {
     pub at: usize,
     pub end: usize,
@@ -16,14 +16,14 @@ pub struct Cursor {
 }
 
 // The next change, never a blank one; that the file is over; or that a read failed.
-#[derive(Drop)]
+#[derive(Clone, Copy)]
 pub enum Next {
     Found(Entry),
     Over,
     Failed,
 }
 
-#[derive(Drop)]
+#[derive(Clone, Copy)]
 pub struct Step {
     pub next: Next,
     pub cursor: Cursor,

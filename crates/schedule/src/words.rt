@@ -4,7 +4,7 @@ ghost use Rattle.schedule.specs.Words.{is_blank, is_kind, run_in};
 ghost use Rattle.schedule.specs.Places.{goes_on, WordAt};
 
 // Where a word stands: from its first byte to behind its last.
-#[derive(Drop)]
+#[derive(Clone, Copy)]
 pub(crate) struct Span {
     pub(crate) from: usize,
     pub(crate) to: usize,

@@ -6,7 +6,7 @@ pub const MOST: usize = 131072;
 
 // What a word has come to as bytes, behind those of the words before it: nothing yet, a lone `-`, so many
 // bytes in all, so many and the first digit of the next, or that it is none or too long.
-#[derive(Drop)]
+#[derive(Clone, Copy)]
 pub enum Bytes {
     Start(usize),
     Dash(usize),

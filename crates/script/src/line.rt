@@ -7,7 +7,7 @@ use text::Parsed;
 // A line that is being read: the name of its command, the kinds of the words that are still to come,
 // and the numbers of the words after the command, in `count` places, all of them right where `good` is true.
 // `more` says that another word follows, and `over` that the input had no line any more.
-#[derive(Drop)]
+#[derive(Clone, Copy)]
 pub struct Line {
     pub input: Input,
     pub name: u64,

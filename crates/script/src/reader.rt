@@ -5,7 +5,7 @@ use text::{Area, Run};
 
 // The bytes of the buffer from `at` to `end` are still to be read; `open` says that there may be more
 // behind them. `byte` was read last, and is 10 at the end of the input.
-#[derive(Drop)]
+#[derive(Clone, Copy)]
 pub struct Input {
     pub at: usize,
     pub end: usize,
@@ -15,7 +15,7 @@ pub struct Input {
 
 // What a word has come to, as each thing that a word can be, and the input behind it. An area that has
 // filled the `first` samples that it is lent goes on in others, and `area` is what has come there.
-#[derive(Drop)]
+#[derive(Clone, Copy)]
 pub struct Word {
     pub input: Input,
     pub name: u64,

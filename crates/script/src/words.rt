@@ -3,7 +3,7 @@ use crate::bytes::bytes_done;
 use crate::reader::Word;
 use text::{Area, Parsed};
 
-#[derive(Drop)]
+#[derive(Clone, Copy)]
 pub enum Command {
     New,
     NewSinc,

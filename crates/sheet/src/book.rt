@@ -9,14 +9,14 @@ use sheets::take_record;
 use tally::plus;
 
 // How many records of the log were taken, and how many stretches were skipped, of how many bytes.
-#[derive(Drop)]
+#[derive(Clone, Copy)]
 pub struct Seen {
     pub records: u64,
     pub stretches: u64,
     pub skipped: u64,
 }
 
-#[derive(Drop)]
+#[derive(Clone, Copy)]
 pub struct Book {
     pub page: Page,
     pub chart: Chart,

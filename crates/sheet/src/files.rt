@@ -5,7 +5,7 @@ use file_facts::{Facts, is_same};
 
 // A log: the place of its name, its descriptor, below 0 where it could not be opened, and its size where it is
 // a regular file, else 0.
-#[derive(Drop)]
+#[derive(Clone, Copy)]
 pub struct Log {
     pub word: usize,
     pub fd: i32,

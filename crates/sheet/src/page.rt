@@ -7,7 +7,7 @@ use tally::plus;
 
 // The sheet; how many lines of this log were told, its word alone counting as one; whether this log is read on,
 // every log was read whole, every line is inside, and all was written.
-#[derive(Drop)]
+#[derive(Clone, Copy)]
 pub struct Page {
     pub sheet: Sheet,
     pub lines: u64,

@@ -3,7 +3,7 @@ use crate::files::Log;
 use crate::say::{say_count, say_word};
 
 // The clock's second that was seen last, and how many others were seen before.
-#[derive(Drop)]
+#[derive(Clone, Copy)]
 pub struct Clock {
     pub second: i64,
     pub ticks: u64,

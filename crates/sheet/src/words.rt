@@ -3,7 +3,7 @@ use programs::Common;
 
 // How many logs are named, and whether standard input is one; the place of the picture's name, 0 where none
 // is given, and whether it is wanted next; and the other words.
-#[derive(Drop)]
+#[derive(Clone, Copy)]
 pub struct Words {
     pub logs: usize,
     pub input: bool,

@@ -10,7 +10,7 @@ use script::values::{Values, count_at};
 use sheets::{Sheet, Told, Turn, end_log, new_sheet, take_record};
 
 // The sheet and the place behind its rows. `reads` says that the log is read on, from `place`.
-#[derive(Drop)]
+#[derive(Clone, Copy)]
 struct Walk {
     sheet: Sheet,
     end: usize,

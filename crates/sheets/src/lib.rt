@@ -1,4 +1,5 @@
 // The sheet: the total over all lines, and the open line. A line is handed out when it ends.
+#![tactic(auto)]
 mod records;
 mod totals;
 
@@ -10,7 +11,7 @@ use lines::{End, Line};
 pub use records::{end_log, take_record};
 
 // The sums of the lines' counts and positions.
-#[derive(Drop)]
+#[derive(Clone, Copy)]
 pub struct Total {
     pub frames: u64,
     pub blocks: u64,
@@ -19,7 +20,7 @@ pub struct Total {
 }
 
 // The sum of the lines that have ended, that with the open line added, and the line where one is open.
-#[derive(Drop)]
+#[derive(Clone, Copy)]
 pub struct Sheet {
     pub closed: Total,
     pub total: Total,
@@ -29,7 +30,7 @@ pub struct Sheet {
 
 // What is told of a record: nothing, a line that has ended, or the word of a bad record where no line is
 // open.
-#[derive(Drop)]
+#[derive(Clone, Copy)]
 pub enum Told {
     Quiet,
     Row(Line, End),
@@ -37,7 +38,7 @@ pub enum Told {
 }
 
 // The sheet after a record, what is told of it, and whether the log is read on.
-#[derive(Drop)]
+#[derive(Clone, Copy)]
 pub struct Turn {
     pub sheet: Sheet,
     pub told: Told,
@@ -45,7 +46,7 @@ pub struct Turn {
 }
 
 // A total, or that it would leave its range.
-#[derive(Drop)]
+#[derive(Clone, Copy)]
 pub enum Sum {
     Fits(Total),
     Over,

@@ -1,6 +1,7 @@
 // The parameters of a sinc interpolation, and the setters that chain: each hands back the record with
 // one field changed. A setter of a field that is an enum puts the record together anew, since such a
 // field is not stored to by itself.
+#![tactic(auto)]
 ghost use Rattle.std.specs.Prelude.{◌≡◌};
 ghost use Rattle.sinc_parameters.specs.Parameters.{new_of, default_of, with_sinc_len, with_window, with_cutoff, with_factor, with_interpolation};
 
@@ -8,7 +9,7 @@ use asynchro_sinc::SincInterpolationType;
 use windows::WindowFunction;
 
 // The relative cutoff frequency. The source has an `Option<f32>` here.
-#[derive(Drop)]
+#[derive(Clone, Copy)]
 pub enum Cutoff {
     // Left to `windows::calculate_cutoff`, by the length and the window.
     Auto,
@@ -17,7 +18,7 @@ pub enum Cutoff {
 }
 
 // What a sinc interpolation is made from.
-#[derive(Drop)]
+#[derive(Clone, Copy)]
 pub struct SincInterpolationParameters {
     // The number of points of the windowed sinc.
     pub sinc_len: usize,

@@ -1,5 +1,6 @@
 // Sizes: numbers of frames that are worked out of doubles, in the source's operation order.
 // Only our own crates call these.
+#![tactic(auto)]
 ghost use Rattle.std.specs.Prelude.{◌≡◌, ◌≤◌, true};
 ghost use Rattle.exact.specs.Doubles.{count};
 ghost use Rattle.sizes.specs.Bounds.{is_ratio};
@@ -19,14 +20,14 @@ ghost use Rattle.sizes.specs.Sizes.{
 };
 
 // Which side of a block has a fixed number of frames.
-#[derive(Drop)]
+#[derive(Clone, Copy)]
 pub enum FixedAsync {
     Input,
     Output,
 }
 
 // A number of frames, or more than 65,536.
-#[derive(Drop)]
+#[derive(Clone, Copy)]
 pub enum Size {
     Frames(usize),
     TooLarge,

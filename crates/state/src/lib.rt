@@ -1,4 +1,5 @@
 // The state record: its steps and sizes, the StateRecord test, and the one end of every call.
+#![tactic(auto)]
 ghost use Rattle.std.specs.Prelude.{◌≡◌, true};
 ghost use Rattle.kinds.specs.Kinds.{kind_holds};
 ghost use Rattle.state.specs.Record.{
@@ -28,7 +29,7 @@ use sizes::{FixedAsync, Size};
 // needed sizes, `fill` the input frames that the working area holds, `m` the largest relative ratio.
 // Document 02, R-2: `now` and `then` are the stored steps, 1/current and 1/target. R-4: `kind` stands where
 // the degree stood.
-#[derive(Drop)]
+#[derive(Clone, Copy)]
 pub struct State {
     pub channels: usize,
     pub chunk: usize,
@@ -48,7 +49,7 @@ pub struct State {
 }
 
 // A record that a call made, or why not.
-#[derive(Drop)]
+#[derive(Clone, Copy)]
 pub enum Made {
     Ready(State),
     Refused(Refusal),

@@ -10,14 +10,14 @@ use windows::WindowFunction;
 const NAMES: [u8; 42] = *b"hann2 blackman2 blackman-harris2 h2 b2 bh2";
 
 // A part of that list.
-#[derive(Drop)]
+#[derive(Clone, Copy)]
 pub struct Span {
     pub from: usize,
     pub to: usize,
 }
 
 // The window that a word names, or that it names none.
-#[derive(Drop)]
+#[derive(Clone, Copy)]
 pub enum Named {
     Window(WindowFunction),
     Bad,

@@ -6,7 +6,7 @@ use text::Parsed;
 use windows::WindowFunction;
 
 // What was read so far: how many of POINTS, FACTOR, CUTOFF and WINDOW, and what they say; and the others.
-#[derive(Drop)]
+#[derive(Clone, Copy)]
 pub struct Words {
     pub plain: usize,
     pub points: usize,

@@ -1,9 +1,10 @@
 // The sum of a table, by which a pass can name it: over the bits of its entries, in order, in Fletcher's way.
+#![tactic(auto)]
 ghost use Rattle.std.specs.Prelude.{◌≡◌};
 ghost use Rattle.table_sum.specs.Sum.{plus_entry, sum_of};
 
 // All entries' bits summed up, and all of these running sums summed up, both modulo 2^64.
-#[derive(Drop)]
+#[derive(Clone, Copy)]
 pub struct TableSum {
     pub first: u64,
     pub second: u64,

@@ -1,11 +1,12 @@
 // What a pass has used and made so far, and the bound on its drift. A sum that passes 2^64 - 1 stays there.
+#![tactic(auto)]
 ghost use Rattle.std.specs.Prelude.{◌≡◌, ◌+◌, ◌-◌};
 ghost use Rattle.tally.specs.Tally.{capped, ramp_of, none_yet, Counted, bound_of};
 
 // Accepted blocks (B), the input frames that they answered, how many of those were the input's own, their
 // output frames (N), how many of those were written and how many cut before the input and behind it, and
 // the sum of n*(n+1) over the blocks with a ramp, n being a block's output frames.
-#[derive(Drop)]
+#[derive(Clone, Copy)]
 pub struct Counts {
     pub blocks: u64,
     pub used: u64,
@@ -19,7 +20,7 @@ pub struct Counts {
 
 // An accepted block: its two sizes, the frames given to it, the frames from..to of it that are written,
 // and whether its increment is not 0.
-#[derive(Drop)]
+#[derive(Clone, Copy)]
 pub struct Block {
     pub input: usize,
     pub output: usize,

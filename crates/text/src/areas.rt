@@ -7,7 +7,7 @@ use crate::words::{Parsed, Run, hex_step, no_digits};
 
 // What a word has come to as an area: nothing yet, a lone `-`, so many samples and the digits of the
 // next, or that it is none or too long.
-#[derive(Drop)]
+#[derive(Clone, Copy)]
 pub enum Area {
     Start,
     Dash,

@@ -1,5 +1,6 @@
 // Numbers and doubles as text: bits of doubles, hex and decimal digits, and areas of samples as runs
 // of hex digits.
+#![tactic(auto)]
 mod areas;
 mod bits;
 mod digits;

@@ -6,14 +6,14 @@ use crate::digits::digit_of;
 
 // What a run of digits has come to: how many there are, where 17 stands for more than 16, and their
 // number. It is bad where a byte is no digit, or the number is above 2^64 - 1.
-#[derive(Drop)]
+#[derive(Clone, Copy)]
 pub enum Run {
     Digits(usize, u64),
     Bad,
 }
 
 // The number of a word, or that the word is none.
-#[derive(Drop)]
+#[derive(Clone, Copy)]
 pub enum Parsed {
     Number(u64),
     Bad,

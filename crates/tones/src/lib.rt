@@ -1,4 +1,5 @@
 // Two test tones at 48,000 frames a second: 440 Hz in the first channel and 1,000 Hz in the second.
+#![tactic(auto)]
 ghost use Rattle.std.specs.Prelude.{◌*◌, ◌≤◌, length};
 
 use options::{say, say_number, say_start};
@@ -6,7 +7,7 @@ use printer::bytes_of;
 use samples::least;
 
 // The next sample of each tone, and the one before it.
-#[derive(Drop)]
+#[derive(Clone, Copy)]
 pub struct Tones {
     low: f64,
     low_before: f64,
@@ -55,7 +56,7 @@ fn put_tones(bytes: &mut [u8], n: usize, first: Tones) -> Tones
 }
 
 // What is left to write, and the tones that it starts with.
-#[derive(Drop)]
+#[derive(Clone, Copy)]
 struct Rest {
     frames: u64,
     tones: Tones,

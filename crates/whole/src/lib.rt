@@ -3,13 +3,14 @@
 //
 // The public functions deal with the sign: of a negative x the size -x goes to `part`, `over` or
 // `near`, and the sign is put back. So a zero keeps its sign, and a number that goes to zero too.
+#![tactic(auto)]
 ghost use Rattle.std.specs.Prelude.{◌≡◌, false};
 ghost use Rattle.std.specs.Float.Ieee.{lt};
 ghost use Rattle.exact.specs.Doubles.{zero_f};
 ghost use Rattle.whole.specs.Rounded.{floor_of, ceil_of, trunc_of, round_of, split_of};
 
 // The floor of a double, and what the double is above it.
-#[derive(Drop)]
+#[derive(Clone, Copy)]
 pub struct Parts {
     pub floor: f64,
     pub frac: f64,

@@ -1,4 +1,5 @@
 // The window kinds, and the cutoff that suits a window at a number of points.
+#![tactic(auto)]
 ghost use Rattle.std.specs.Prelude.{◌≡◌, ◌&&◌, [], nat_le, slice_index_or};
 ghost use Rattle.exact.specs.Doubles.{count};
 ghost use Rattle.error.specs.Refusals.{said_answer};
@@ -7,7 +8,7 @@ ghost use Rattle.windows.specs.Cutoff.{row_of, cutoff_rows, cutoff_by, cutoff_sa
 use error::{Answer, Refusal};
 
 // The windows that a sinc can be shaped by. A 2 stands for the square of the window before it.
-#[derive(Drop)]
+#[derive(Clone, Copy)]
 pub enum WindowFunction {
     Blackman,
     Blackman2,

@@ -8,7 +8,7 @@ use printer::bytes_of;
 use samples::{gather, least, samples_in, takes};
 
 // What was written: the samples from number `first` up to `last`, and whether all went well.
-#[derive(Drop)]
+#[derive(Clone, Copy)]
 struct Writing {
     first: usize,
     last: usize,

@@ -1,0 +1,7 @@
+-- `log_records::reading::sum_agrees` meets its contract. Assumes nothing.
+use Rattle.log_records.proofs.Places.{sum_at}
+use Rattle.log_records.proofs.reading.sum_agrees.Goals as goal
+
+pub returns : goal.returns
+returns c = let a = c in
+    sum_at a.args.log.now a.args.at a.args.n _ _ a.requires.0 c.two_at.ensures.0 c.total_of.ensures.0
