@@ -19,4 +19,5 @@ pub shape_of-line : goal.shape_of-line
 shape_of-line c = c.loop-i.invariant.1.long
 
 pub returns : goal.returns
-returns c = record { place = (formed_done _ _ _ _ _ _ _ _ c.loop-i.invariant.1 (omega arith)).0; put = (formed_done _ _ _ _ _ _ _ _ c.loop-i.invariant.1 (omega arith)).1 }
+returns c = let p = formed_done _ _ _ _ _ _ _ _ c.loop-i.invariant.1 (omega arith) in
+    record { place = p.0; put = p.1 }

@@ -3,4 +3,5 @@ use Rattle.log_calls.proofs.Fronts.{of_payload}
 use Rattle.log_calls.proofs.put_start.Goals as goal
 
 pub returns : goal.returns
-returns c = let a = c.args in record { answer = (of_payload a.kind _ _ a.out.now c.put_record.result _ c.start_payload-payload.ensures (c.put_record.ensures.answer, c.put_record.ensures.area)).0; area = (of_payload a.kind _ _ a.out.now c.put_record.result _ c.start_payload-payload.ensures (c.put_record.ensures.answer, c.put_record.ensures.area)).1 }
+returns c = let a = c.args in let p = of_payload a.kind _ _ a.out.now c.put_record.result _ c.start_payload-payload.ensures (c.put_record.ensures.answer, c.put_record.ensures.area) in
+    record { answer = p.0; area = p.1 }
