@@ -17,11 +17,11 @@ pub returns-then-l-eq18446744073709551615 : goal.returns-then-l-eq18446744073709
 returns-then-l-eq18446744073709551615 c = (refl, inr (inr (over_count c.args.l.blocks 1 (omega arith))))
 
 pub returns : goal.returns
-returns c = let a = c.args in (
+returns c = (
   refl,
   refl,
   refl,
-  c.add.ensures ∙ ap (λ (x : ℕ). (value_of a.l.most + x) % full) c.allowance.ensures,
-  under_count a.l.frames a.n c.if-l-n.false (omega arith),
-  under_count a.l.blocks 1 (omega arith) (omega arith),
+  c.add.ensures ∙ ap (λ (x : ℕ). (value_of c.args.l.most + x) % full) c.allowance.ensures,
+  under_count c.args.l.frames c.args.n c.if-l-n.false (omega arith),
+  under_count c.args.l.blocks 1 (omega arith) (omega arith),
 )

@@ -12,9 +12,9 @@ pub returns-then-t-l-2 : goal.returns-then-t-l-2
 returns-then-t-l-2 c = inr (over_count c.args.t.blocks c.args.l.blocks c.if-t-l-2.true)
 
 pub returns : goal.returns
-returns c = let a = c.args in (
+returns c = (
   refl,
   refl,
-  under_count a.t.frames a.l.frames c.if-t-l.false (omega arith),
-  under_count a.t.blocks a.l.blocks c.if-t-l-2.false (omega arith),
+  under_count c.args.t.frames c.args.l.frames c.if-t-l.false (omega arith),
+  under_count c.args.t.blocks c.args.l.blocks c.if-t-l-2.false (omega arith),
 )
