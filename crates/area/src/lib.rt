@@ -1,6 +1,7 @@
 // The work on lent areas, "channel after channel": moving samples to the front, reading input, zeroing.
 // Only our own crates call these functions, and all but `zero_all` have a `requires`.
 #![tactic(auto)]
+
 ghost use Rattle.std.specs.Prelude.{◌≡◌, ◌+◌, ◌*◌, ◌<◌, ◌≤◌, length, replicate};
 ghost use Rattle.exact.specs.Doubles.{zero_f};
 ghost use Rattle.area.specs.Turns.{one_part};

@@ -1,5 +1,6 @@
 // The ratio state's settings. Document 01: "Ratio changes", "Refusal numbers".
 #![tactic(auto)]
+
 ghost use Rattle.std.specs.Prelude.{◌≡◌};
 ghost use Rattle.state.specs.Record.{said_made};
 ghost use Rattle.asynchro.specs.Calls.{

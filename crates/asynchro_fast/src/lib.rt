@@ -1,5 +1,6 @@
 // The five kernels of the polynomial resampler, and the choice among them by the degree.
 #![tactic(auto)]
+
 ghost use Rattle.std.specs.Prelude.{◌≡◌, length};
 ghost use Rattle.exact.specs.Samples.{linear};
 ghost use Rattle.error.specs.Refusals.{said_answer};

@@ -1,6 +1,7 @@
 // The sinc side's small arithmetic: which blends of grid points there are, the blends themselves, and what
 // each point counts for in one. The parameter record is in the crate sinc_parameters.
 #![tactic(auto)]
+
 ghost use Rattle.std.specs.Prelude.{◌≡◌};
 ghost use Rattle.exact.specs.Samples.{line_on, linear};
 ghost use Rattle.error.specs.Refusals.{said_answer};

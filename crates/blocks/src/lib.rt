@@ -2,6 +2,7 @@
 // say; which blocks are taken, how many samples a piece has, which samples of an area it reaches and where the
 // held frame stands is proved.
 #![tactic(auto)]
+
 mod ahead;
 mod reading;
 

@@ -1,6 +1,7 @@
 // The tests of document 01's "Numbers that bound the build" on single numbers. Their definitions are those
 // of crates/sizes/specs/Bounds.antt.
 #![tactic(auto)]
+
 ghost use Rattle.std.specs.Prelude.{◌≡◌};
 ghost use Rattle.exact.specs.Doubles.{above_zero, at_least_one};
 ghost use Rattle.sizes.specs.Bounds.{is_ratio, is_channels, is_chunk, is_index};

@@ -1,6 +1,7 @@
 // The call script: reads lines on standard input and answers each with one line on standard output,
 // which is written before the next line is read.
 #![tactic(auto)]
+
 ghost use Rattle.std.specs.Prelude.{◌≡◌, length};
 
 use commands::{begin, serve};

@@ -1,6 +1,7 @@
 // The work on one channel's share of an area, and the mask. Only our own crates call these functions,
 // and each has a `requires`.
 #![tactic(auto)]
+
 mod mask;
 
 ghost use Rattle.std.specs.Prelude.{◌≡◌, ◌+◌, ◌≤◌, length, replicate};

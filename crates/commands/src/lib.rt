@@ -1,6 +1,7 @@
 // What each line of the call script does, over the public calls alone: the record, the working area and
 // the table that are kept, and the answer.
 #![tactic(auto)]
+
 mod answer;
 mod leaves;
 mod noted;

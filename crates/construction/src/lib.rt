@@ -1,5 +1,6 @@
 // Construction of a ratio state. Document 01: "The ratio state", "Refusal numbers".
 #![tactic(auto)]
+
 ghost use Rattle.std.specs.Prelude.{◌≡◌, true};
 ghost use Rattle.kinds.specs.Kinds.{kind_holds};
 ghost use Rattle.state.specs.Record.{said_made};

@@ -4,6 +4,7 @@
 // relative maximum 1.1, and the output side is fixed. It prints the sizes of the next block and the sum of
 // the last one's output, and on standard error that a call was refused. Every function here is proved safe.
 #![tactic(auto)]
+
 mod numbers;
 
 use libc::{STDERR_FILENO, STDOUT_FILENO};

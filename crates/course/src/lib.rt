@@ -2,6 +2,7 @@
 // that they come from, which frames are written, their line and record, progress, and the log's head and end.
 // That each function is safe and ends is proved.
 #![tactic(auto)]
+
 mod block;
 mod changes;
 mod kept;

@@ -3,6 +3,7 @@
 // number of input frames less 2^-20. No position is summed up: the limits are taken to the block instead,
 // where they are doubles without rounding.
 #![tactic(auto)]
+
 ghost use Rattle.std.specs.Prelude.{◌≡◌, suc, min};
 ghost use Rattle.path.specs.Path.{path_at};
 ghost use Rattle.cut.specs.Cut.{limit_of, leading, kept_of};

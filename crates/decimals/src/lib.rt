@@ -1,5 +1,6 @@
 // Numbers as words: the double of a decimal, of a quotient or of its bits in hex, each rounded once.
 #![tactic(auto)]
+
 mod nearest;
 mod numbers;
 

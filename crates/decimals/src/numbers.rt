@@ -111,11 +111,11 @@ pub fn number_of(word: &[u8]) -> Number
     if word[0] == 120 {
         return bits(&word[1..]);
     }
-    let point = bytes::scan::find(word, 0, n, 46);
+    let point = scan::find(word, 0, n, 46);
     if point < n {
         return decimal(&word[..point], &word[point + 1..]);
     }
-    let bar = bytes::scan::find(word, 0, n, 47);
+    let bar = scan::find(word, 0, n, 47);
     if bar < n {
         return quotient_of(&word[..bar], &word[bar + 1..]);
     }

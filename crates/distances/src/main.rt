@@ -4,6 +4,7 @@
 // were worked out from document 01 by a program in another language. Every function here is proved safe;
 // the figures are those of `lines`, whose contracts say which numbers come out.
 #![tactic(auto)]
+
 mod account;
 mod passes;
 mod report;

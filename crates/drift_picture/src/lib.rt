@@ -1,6 +1,7 @@
 // The picture of the sheet: the points that blocks leave, and the distance and its bound over the output frames, as
 // the text of an SVG.
 #![tactic(auto)]
+
 mod axes;
 mod chart;
 mod heights;

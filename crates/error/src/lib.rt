@@ -1,6 +1,7 @@
 // The refusals of document 01, each with the floats that it carries, and the answer of a call that
 // gives one double.
 #![tactic(auto)]
+
 ghost use Rattle.std.specs.Prelude.{◌≡◌, [], ◌∷◌};
 ghost use Rattle.error.specs.Refusals.{number_of, values_of, padded};
 

@@ -2,6 +2,7 @@
 //
 // No contract says what the system answers, so of `facts_of` and `facts_at` only safety is proved.
 #![tactic(auto)]
+
 mod asked;
 mod name;
 mod taken;

@@ -1,6 +1,7 @@
 // Lines with places for numbers: a form is a text in which `#` stands for the next number in decimal and
 // `$` for the float whose bits the next number is, as a decimal and as its bits.
 #![tactic(auto)]
+
 ghost use Rattle.std.specs.Prelude.{◌≡◌, length, get_or};
 ghost use Rattle.printer.specs.Put.{put_in, place_after};
 ghost use Rattle.forms.specs.Forms.{mark_text, taken_by, place_to, line_to};

@@ -1,5 +1,6 @@
 // The frames of a block in all channels, frame after frame, each by its site. Only our own crates call these.
 #![tactic(auto)]
+
 ghost use Rattle.std.specs.Prelude.{◌≡◌, ◌+◌, ◌*◌, ◌<◌, ◌≤◌, length, set, true};
 ghost use Rattle.kinds.specs.Kinds.{points_of, kind_holds, table_of};
 ghost use Rattle.channel.specs.Mask.{where_on};

@@ -56,12 +56,12 @@ abbrev HeldAt : SincInterpolationType → ℕ → ℕ → ℕ → Float → ℤ 
 HeldAt blend factor shift last x o = is_held (spot_of shift last (point_of factor (number_of blend x factor +ℤ o))) ≡ true
 
 -- each blend's points are numbers from q - 1 to q + 2, so they are held where all of these are
-all_held : (blend : SincInterpolationType) (factor shift last : ℕ) (x y : Float) → 3 ≤ factor → ((o : ℤ) → Offset factor 1 (pair_of o) → HeldAt blend factor shift last x o)
+blended_held : (blend : SincInterpolationType) (factor shift last : ℕ) (x y : Float) → 3 ≤ factor → ((o : ℤ) → Offset factor 1 (pair_of o) → HeldAt blend factor shift last x o)
     → all_held (blended blend (map (spot_of shift last) (points_of blend x factor)) y) ≡ true
-all_held Nearest factor shift last x y some h = h (pos 0) (omega arith)
-all_held Linear factor shift last x y some h = rw (h (pos 0) (omega arith), h (pos 1) (omega arith))
-all_held Quadratic factor shift last x y some h = rw (h (pos 0) (omega arith), h (pos 1) (omega arith), h (pos 2) (omega arith))
-all_held Cubic factor shift last x y some h = rw (h (negsuc 0) (omega arith), h (pos 0) (omega arith), h (pos 1) (omega arith), h (pos 2) (omega arith))
+blended_held Nearest factor shift last x y some h = h (pos 0) (omega arith)
+blended_held Linear factor shift last x y some h = rw (h (pos 0) (omega arith), h (pos 1) (omega arith))
+blended_held Quadratic factor shift last x y some h = rw (h (pos 0) (omega arith), h (pos 1) (omega arith), h (pos 2) (omega arith))
+blended_held Cubic factor shift last x y some h = rw (h (negsuc 0) (omega arith), h (pos 0) (omega arith), h (pos 1) (omega arith), h (pos 2) (omega arith))
 
 -- the law: of a number of at least -(shift - 1), and below last - shift, every grid point's samples are held
 pub inner_held : (blend : SincInterpolationType) (factor shift last : ℕ) (x : Float) → 3 ≤ factor → factor ≤ 1024 → 1 ≤ shift → shift < 131072 → 2 ≤ last → last < 131072 → Number binary64 x
@@ -70,7 +70,7 @@ pub inner_held : (blend : SincInterpolationType) (factor shift last : ℕ) (x : 
     → all_held (spots_of blend factor shift last x) ≡ true
 inner_held blend factor shift last x some most h k l m n a b =
     subst (λ (said : Said (List Point)). all_held (spots_said blend shift last (blend_place x factor) said) ≡ true) (sym (range_points blend x factor range))
-    (all_held blend factor shift last x (blend_place x factor) some held)
+    (blended_held blend factor shift last x (blend_place x factor) some held)
   where
     range : in_range 3 x factor ≡ true
     range =

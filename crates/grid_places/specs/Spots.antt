@@ -2,7 +2,6 @@
 use Rattle.std.specs.Prelude.{ℕ, suc, ◌+◌, ◌-◌, Bool, true, false, ◌&&◌, List, map, ℤ, pos, negsuc, nat_le, slice_index_or, Float}
 use Rattle.exact.specs.Doubles.{◌*f◌, count}
 use Rattle.error.specs.Refusals.{Said, given, refused}
-use Rattle.whole.specs.declared.Parts.{Parts}
 use Rattle.whole.specs.Rounded.{split_of}
 use Rattle.interpolation.specs.declared.Point.{Point}
 use Rattle.interpolation.specs.Grid.{nearest1, nearest2, nearest3, nearest4}

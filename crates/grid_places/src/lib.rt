@@ -1,5 +1,6 @@
 // Where the samples of a frame's grid points lie, for a sinc. Only our own crates call these.
 #![tactic(auto)]
+
 ghost use Rattle.std.specs.Prelude.{◌≡◌, ◌<◌, nat_le};
 ghost use Rattle.interpolation.specs.Grid.{nearest1, nearest2, nearest3, nearest4};
 ghost use Rattle.grid_places.specs.Spots.{

@@ -2,6 +2,7 @@
 // and stores the record back. Document 01: "A thin form also changes a state record in place
 // through a mutable reference".
 #![tactic(auto)]
+
 ghost use Rattle.std.specs.Prelude.{◌≡◌};
 ghost use Rattle.asynchro.specs.Calls.{result_of, set_ratio, set_relative, set_chunk};
 ghost use Rattle.process.specs.Block.{block_of, block_left, reset_of, reset_left};

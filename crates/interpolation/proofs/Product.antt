@@ -1,5 +1,5 @@
 -- A fraction from 0 to 1 times a count, rounded once, lies from 0 to the count; and so do its floor and its nearest whole number. Assumes nothing.
-use Rattle.std.proofs.Common.{◌≡◌, ℕ, zero, suc, ◌+◌, ◌*◌, ◌/◌, ◌^◌, ◌<◌, ◌≤◌, Bool, true, false, T, pos, sym, ap, ◌∙◌, subst, true≢false, le_of_suc-le-suc, lt_of_le_of_lt, mul-le-mul_right, zero-lt-suc, lt_of_mul-lt-mul_right, mul-lt-mul_of_pos_right, mul-pos, zero-mul, mul-one, le_of_mul-le-mul_right, arith, lit≤, pow_pos}
+use Rattle.std.proofs.Common.{◌≡◌, ℕ, suc, ◌+◌, ◌*◌, ◌^◌, ◌<◌, ◌≤◌, Bool, true, false, T, pos, sym, ap, ◌∙◌, subst, true≢false, le_of_suc-le-suc, lt_of_le_of_lt, mul-le-mul_right, zero-lt-suc, lt_of_mul-lt-mul_right, mul-lt-mul_of_pos_right, mul-pos, zero-mul, mul-one, le_of_mul-le-mul_right, arith, lit≤, pow_pos}
 use lib.Ieee.{Float, nan, inf, fin, Format, binary32, binary64, prec, emax, low, up, down, round, lt, mul, of_int, to_unsigned}
 use lib.Ieee.Back.{round_whole}
 use lib.Ieee.Exact.{HasValue}

@@ -1,5 +1,5 @@
 -- Where q lies, for a t below 2 ^ 52 in size: what the casts to whole numbers ask, and how far the start can be. Assumes nothing.
-use Rattle.std.proofs.Common.{◌≡◌, ℕ, ◌+◌, ◌*◌, ◌^◌, ◌≤◌, Bool, true, false, T, ℤ, pos, nat_abs, sym, ap, ◌∙◌, subst, arith, w64, to_z, of_z}
+use Rattle.std.proofs.Common.{◌≡◌, ℕ, ◌+◌, ◌^◌, ◌≤◌, Bool, true, false, T, ℤ, pos, nat_abs, sym, ap, ◌∙◌, subst, arith, w64, to_z, of_z}
 use lib.Ieee.{Float, fin, binary64, low, fits, lt, le, to_signed, to_unsigned}
 use mir.ValLaws.{to_z-of_z}
 use Rattle.exact.specs.Doubles.{count, ◌*f◌}

@@ -2,6 +2,7 @@
 // has `factor` points; point number q of the grid is `index` whole times and `subindex` parts of one:
 // q = index * factor + subindex. q can pass 2^64, so it is never formed: index and subindex stay apart.
 #![tactic(auto)]
+
 ghost use Rattle.std.specs.Prelude.{◌≡◌, ◌≤◌, true, pos, ◌+ℤ◌, ◌-ℤ◌};
 ghost use Rattle.interpolation.specs.Grid.{in_range, point_of, said_times1, said_times2, said_times3, said_times4, nearest1, nearest2, nearest3, nearest4};
 ghost use Rattle.interpolation.specs.Steps.{inner_of, whole_by, begin_of, start_q, Ready};

@@ -1,6 +1,7 @@
 // The frames of a block in all channels: those of a kernel 32 at a time, first their places, then channel after
 // channel. Only our own crates call these functions.
 #![tactic(auto)]
+
 ghost use Rattle.std.specs.Prelude.{◌≡◌, ◌+◌, ◌*◌, ◌<◌, ◌≤◌, length, true};
 ghost use Rattle.std.proofs.Math.Seq.{paste};
 ghost use Rattle.kinds.specs.Kinds.{points_of, kind_holds, table_of};

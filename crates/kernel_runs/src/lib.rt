@@ -1,6 +1,7 @@
 // The kernel of a degree at a run of places: a function for each degree, so that the degree is chosen once for
 // a run and not for each sample. Only our own crates call these functions.
 #![tactic(auto)]
+
 ghost use Rattle.std.specs.Prelude.{◌≡◌, ◌+◌, ◌<◌, ◌≤◌, length, get_or};
 ghost use Rattle.std.specs.Float.{nan};
 ghost use Rattle.asynchro_fast.specs.Degrees.{points_of};

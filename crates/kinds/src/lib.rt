@@ -1,5 +1,6 @@
 // What a record resamples by: a polynomial, or a sinc over a lent table.
 #![tactic(auto)]
+
 ghost use Rattle.std.specs.Prelude.{◌≡◌, true};
 ghost use Rattle.kinds.specs.Kinds.{points_of, sinc_holds, kind_holds, table_of};
 

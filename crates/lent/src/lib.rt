@@ -1,6 +1,7 @@
 // One block of a pass on areas of which only a front part is lent. The output's part is zeros before the block,
 // so that a muted channel has nothing of an older block.
 #![tactic(auto)]
+
 ghost use Rattle.std.specs.Prelude.{◌≡◌, length, replicate};
 ghost use Rattle.exact.specs.Doubles.{zero_f};
 ghost use Rattle.process.specs.Block.{block_of, block_left};

@@ -1,5 +1,6 @@
 // A line of the sheet: what is added up along one stream from its start, of a log's records or of live calls.
 #![tactic(auto)]
+
 mod adding;
 
 ghost use Rattle.std.specs.Prelude.{◌≡◌};

@@ -1,5 +1,6 @@
 // The records of a pass's calls: what the pass log keeps of each.
 #![tactic(auto)]
+
 ghost use Rattle.std.specs.Prelude.{◌≡◌, length};
 ghost use Rattle.log_writer.specs.Writer.{said_put, put_said, put_area};
 ghost use Rattle.log_calls.specs.Payloads.{start_payload, increment, block_payload, setting_payload};

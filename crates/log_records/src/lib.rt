@@ -2,6 +2,7 @@
 // length in two bytes, the payload of up to 64 bytes, and in two bytes the sum of kind, length and payload
 // bytes; the lowest byte first.
 #![tactic(auto)]
+
 mod reading;
 
 pub use reading::{is_kind, length_at, read_record, total_of};

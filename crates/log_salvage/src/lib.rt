@@ -1,6 +1,7 @@
 // Salvage of a pass log: a walk from stretch to stretch that is lent the log alone and needs no room of its
 // own; who calls it copies.
 #![tactic(auto)]
+
 ghost use Rattle.std.specs.Prelude.{not, ◌≡◌, ◌+◌, ◌<◌, length, drop};
 ghost use Rattle.log_salvage.specs.Salvage.{stops_at, skips, stretch_at};
 

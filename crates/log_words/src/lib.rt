@@ -1,6 +1,7 @@
 // The call script's words on the pass log, which put their answers themselves, each at the start of the
 // buffer. They answer how many bytes it has. Each function is proved safe and to end.
 #![tactic(auto)]
+
 use log_records::{Read, read_record};
 use log_salvage::{Stretch, next_stretch};
 use log_writer::{Put, Refused, put_record};

@@ -1,5 +1,5 @@
 -- Document 02, R-12: what the writer says, and the lent bytes then. Definitions only.
-use Rattle.std.specs.Prelude.{List, [], ◌∷◌, ◌++◌, ℕ, ◌+◌, leb, length, drop}
+use Rattle.std.specs.Prelude.{List, [], ◌++◌, ℕ, ◌+◌, leb, length, drop}
 use Rattle.error.specs.Refusals.{Said, given, refused, unless}
 use Rattle.log_records.specs.Records.{is_kind, record_of}
 use Rattle.log_writer.specs.declared.Refused.{Refused}

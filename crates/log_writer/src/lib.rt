@@ -1,5 +1,6 @@
 // The writer of the pass log: a record put at the front of lent bytes.
 #![tactic(auto)]
+
 ghost use Rattle.std.specs.Prelude.{true, ◌≡◌, ◌∷◌, ◌++◌, ◌+◌, ◌≤◌, length, drop};
 ghost use Rattle.log_records.specs.Records.{two_of, is_kind, sum_of, record_of};
 ghost use Rattle.log_writer.specs.Writer.{number_of, said_put, put_said, put_area};

@@ -1,6 +1,7 @@
 // The words of resample's command line, the files that they name, its help text and its messages. That
 // each function is safe and ends is proved, and no more.
 #![tactic(auto)]
+
 mod clashes;
 mod files;
 mod help_text;

@@ -133,7 +133,7 @@ fn is_right(r: Reading, name: usize, joined: bool, word: &[u8]) -> bool {
 
 fn read_word(r: Reading, word: &[u8]) -> Reading {
     let n = word.len();
-    let end = printer::bytes_of(word, bytes::scan::find(word, 0, n, 61));
+    let end = printer::bytes_of(word, scan::find(word, 0, n, 61));
     let name = number_of(&word[..end]);
     if !is_right(r, name, end < n, word) {
         return stopped(r);

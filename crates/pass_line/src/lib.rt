@@ -2,6 +2,7 @@
 // rounding of 1/ratio adds beside them, and how both are told. That each function is safe and ends is proved;
 // what a line holds is `lines`' to prove.
 #![tactic(auto)]
+
 mod numbers;
 mod quotients;
 mod told;

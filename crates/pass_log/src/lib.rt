@@ -2,6 +2,7 @@
 // function is safe and ends is proved. Each answers whether the record was written; where there is no pass
 // log, fd -1, nothing is, and all is well.
 #![tactic(auto)]
+
 use log_calls::{put_block, put_setting, put_start};
 use log_writer::Put;
 use printer::bytes_of;

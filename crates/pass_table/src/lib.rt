@@ -1,6 +1,7 @@
 // The table of a pass by a sinc: read from a file or built, and named in the log. That each function is safe and
 // ends is proved.
 #![tactic(auto)]
+
 use error::Answer;
 use options::{Options, say, say_refused, say_start};
 use printer::samples_of;

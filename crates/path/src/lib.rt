@@ -1,5 +1,6 @@
 // The index path of a block, where a frame's samples lie, and Reach. Only our own crates call these.
 #![tactic(auto)]
+
 ghost use Rattle.std.specs.Prelude.{◌≡◌, true, ◌<◌, ◌≤◌, length};
 ghost use Rattle.kinds.specs.Kinds.{kind_holds};
 ghost use Rattle.path.specs.Path.{step_index, path_at};

@@ -1,6 +1,7 @@
 // What a block and a reset are refused for, and the record that they leave, worked out of the record and
 // the areas' lengths alone: no sample is looked at. Only our own crates call these functions.
 #![tactic(auto)]
+
 ghost use Rattle.std.specs.Prelude.{◌≡◌, true};
 ghost use Rattle.state.specs.Record.{is_state, said_made};
 ghost use Rattle.plan.specs.Plan.{

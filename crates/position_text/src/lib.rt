@@ -1,6 +1,7 @@
 // Positions and lengths as text, both in units of 2^-192: exact, and as a decimal that a person can
 // read. See specs/Texts.antt for the texts. Each is put by way of a buffer that holds the longest one.
 #![tactic(auto)]
+
 mod lengths;
 mod limbs;
 mod positions;

@@ -1,6 +1,7 @@
 // Positions: a signed whole part and 192 fraction bits, held in the 256 bits of a Big, the whole part in the
 // upper 64. No operation rounds; one whose result would need another whole part says so.
 #![tactic(auto)]
+
 mod double;
 mod held;
 

@@ -1,9 +1,9 @@
 -- Room in a buffer: what the code's tests for it say. Assumes nothing.
-use mathlib.Core.Bool.{Bool, true, false, not}
+use mathlib.Core.Bool.{Bool, true, false}
 use mathlib.Core.Path.{◌≡◌, refl, sym, ◌∙◌}
 use Prim.Native.Nat.{ℕ, ◌+◌, ◌-◌, ◌<◌, ◌≤◌}
 use native.Mathlib.Omega.{arith}
-use borrow.Author.Tests.{le-leb, lt-leb, leb-true, leb-false, not-true, not-false}
+use borrow.Author.Tests.{le-leb, lt-leb, leb-true, leb-false}
 use lib.Dec.{leb}
 
 -- two tests that go the same way
@@ -23,8 +23,8 @@ module _ (size at : ℕ) where
 
 -- a test's answer, t
 module _ (t : Bool) (a b : ℕ) (e : t ≡ leb a b) where
-  pub room_some : not t ≡ false → a ≤ b
-  room_some h = leb-true a b (sym e ∙ not-false t h)
+  pub room_some : t ≡ true → a ≤ b
+  room_some h = leb-true a b (sym e ∙ h)
 
-  pub room_none : not t ≡ true → b < a
-  room_none h = leb-false a b (sym e ∙ not-true t h)
+  pub room_none : t ≡ false → b < a
+  room_none h = leb-false a b (sym e ∙ h)

@@ -2,6 +2,7 @@
 // or not at all; where there is no room for it the answer is the end of the buffer, and no text but an
 // empty one finds room after that.
 #![tactic(auto)]
+
 mod areas;
 mod bytes;
 mod front;

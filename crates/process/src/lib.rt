@@ -1,6 +1,7 @@
 // The block run and reset. Two passes: the first (crate plan) works out every refusal and the record to
 // come and writes nothing; the second writes.
 #![tactic(auto)]
+
 ghost use Rattle.std.specs.Prelude.{◌≡◌, true, length};
 ghost use Rattle.state.specs.Record.{is_state};
 ghost use Rattle.shape.specs.Shape.{shape_holds};

@@ -1,6 +1,7 @@
 // The quarter wave: entry k is 2^30*cos(k*pi/2048), rounded to the nearest whole number, for k from 0 to
 // 1,024.
 #![tactic(auto)]
+
 ghost use Rattle.std.specs.Prelude.{◌≡◌};
 ghost use Rattle.quarter.specs.Wave.{wave};
 

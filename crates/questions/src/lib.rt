@@ -1,6 +1,7 @@
 // The questions about a ratio state: each is refused 11 or 10 for a record that no accepted call leaves,
 // and for nothing else.
 #![tactic(auto)]
+
 ghost use Rattle.std.specs.Prelude.{◌≡◌};
 ghost use Rattle.error.specs.Refusals.{said_answer};
 ghost use Rattle.sizes.specs.Sizes.{frames_of, delay_of};

@@ -2,6 +2,7 @@
 // standard input each line of the call script (docs/CALLS.md) is followed by a line with its answer:
 // after `=` the crate's own, after `:` that of document 01 where the crate has none or another.
 #![tactic(auto)]
+
 mod expected;
 mod report;
 

@@ -1,5 +1,6 @@
 // Samples in, samples out, at another rate: the words of the command line say how (`--help`).
 #![tactic(auto)]
+
 mod run;
 mod setup;
 

@@ -1,6 +1,7 @@
 // The two kernels that are given by rows of whole numbers, Septic and Quintic. Only our own crates call
 // these functions.
 #![tactic(auto)]
+
 ghost use Rattle.std.specs.Prelude.{◌≡◌, length};
 ghost use Rattle.exact.specs.Doubles.{◌+f◌, ◌*f◌};
 ghost use Rattle.rows.specs.Rows.{term, row_sum, horner, septic, quintic};

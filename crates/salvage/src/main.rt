@@ -1,6 +1,7 @@
 // Copies the good records of a pass log that may be damaged, and lists what is kept and what is skipped
 // (`--help`).
 #![tactic(auto)]
+
 mod files;
 mod listing;
 mod progress;

@@ -1,6 +1,7 @@
 // Samples as bytes: a sample as eight bytes, frames interleaved in the bytes and channel after channel
 // in the areas; how many samples there are; and tones to try a resampler on.
 #![tactic(auto)]
+
 mod counts;
 mod frames;
 mod little;

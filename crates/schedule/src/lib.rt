@@ -1,6 +1,7 @@
 // A plan of changes, read line by line: `at BLOCK RATIO`, `ramp BLOCK RATIO`, `mask BLOCK MASK`. What is read
 // no contract can say; what a line says is proved.
 #![tactic(auto)]
+
 mod entries;
 mod reading;
 mod words;

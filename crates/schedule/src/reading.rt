@@ -144,7 +144,7 @@ fn turn(fd: i32, bytes: &mut [u8], c: Cursor) -> Step {
     let k = kept(c, bytes.len());
     let at = k.at;
     let end = k.end;
-    let to = bytes::scan::find(bytes, at, end, 10);
+    let to = scan::find(bytes, at, end, 10);
     if to < end {
         return line_read(bytes, k, to, to + 1);
     }

@@ -1,6 +1,7 @@
 // The shape of what a block and a reset are lent: refusal 8, worked out of the record and the areas' lengths
 // alone. Only our own crates call these functions.
 #![tactic(auto)]
+
 ghost use Rattle.std.specs.Prelude.{◌≡◌, true};
 ghost use Rattle.kinds.specs.Kinds.{kind_holds};
 ghost use Rattle.state.specs.Record.{max_input_of, is_state};

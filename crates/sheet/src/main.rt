@@ -1,6 +1,7 @@
 // Adds up the positions that pass logs tell, line by line, and prints them with their distance and its bound
 // (`--help`).
 #![tactic(auto)]
+
 mod book;
 mod files;
 mod logs;

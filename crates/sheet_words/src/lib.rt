@@ -1,6 +1,7 @@
 // The call script's words on the sheet: `sheet`, and the line and the log along the calls on the one record.
 // Each function is proved safe and to end.
 #![tactic(auto)]
+
 mod live;
 mod over_logs;
 mod texts;

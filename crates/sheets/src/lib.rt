@@ -1,5 +1,6 @@
 // The sheet: the total over all lines, and the open line. A line is handed out when it ends.
 #![tactic(auto)]
+
 mod records;
 mod totals;
 

@@ -1,6 +1,7 @@
 // A frame's value by a sinc: the grid points' values over the lent table, and their blend. Only our own
 // crates call these.
 #![tactic(auto)]
+
 ghost use Rattle.std.specs.Prelude.{◌≡◌, ◌-◌, ◌≤◌, length};
 ghost use Rattle.grid_places.specs.Turns.{Fits, FitAll};
 ghost use Rattle.sinc_value.specs.Values.{sum_to, point_value, spots_value};

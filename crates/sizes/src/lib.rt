@@ -1,6 +1,7 @@
 // Sizes: numbers of frames that are worked out of doubles, in the source's operation order.
 // Only our own crates call these.
 #![tactic(auto)]
+
 ghost use Rattle.std.specs.Prelude.{◌≡◌, ◌≤◌, true};
 ghost use Rattle.exact.specs.Doubles.{count};
 ghost use Rattle.sizes.specs.Bounds.{is_ratio};

@@ -1,5 +1,6 @@
 // The state record: its steps and sizes, the StateRecord test, and the one end of every call.
 #![tactic(auto)]
+
 ghost use Rattle.std.specs.Prelude.{◌≡◌, true};
 ghost use Rattle.kinds.specs.Kinds.{kind_holds};
 ghost use Rattle.state.specs.Record.{

@@ -1,5 +1,6 @@
 // The step of a ratio, and the test of one that is stored (document 02, R-2).
 #![tactic(auto)]
+
 ghost use Rattle.std.specs.Prelude.{◌≡◌};
 ghost use Rattle.steps.specs.Steps.{step_of, is_step};
 

@@ -1,6 +1,7 @@
 // Builds the table of windowed sincs that the words ask for, writes it to a file, and says on one line what
 // it is (`--help`).
 #![tactic(auto)]
+
 mod build;
 mod keep;
 mod named;

@@ -1,5 +1,6 @@
 // What a pass has used and made so far, and the bound on its drift. A sum that passes 2^64 - 1 stays there.
 #![tactic(auto)]
+
 ghost use Rattle.std.specs.Prelude.{◌≡◌, ◌+◌, ◌-◌};
 ghost use Rattle.tally.specs.Tally.{capped, ramp_of, none_yet, Counted, bound_of};
 

@@ -1,5 +1,5 @@
 -- Numbers as words: when a word is a decimal number or a bit pattern, and which, and how a word is read byte by byte. Definitions only.
-use Rattle.std.specs.Prelude.{Bool, true, false, cond, ◌&&◌, List, [], ◌∷◌, ℕ, ◌+◌, ◌*◌, ◌^◌, min, eqb, ltb, length}
+use Rattle.std.specs.Prelude.{Bool, true, cond, ◌&&◌, List, [], ◌∷◌, ℕ, ◌+◌, ◌*◌, ◌^◌, min, eqb, ltb, length}
 use Rattle.text.specs.Digits.{digit_of, numeral_from}
 use Rattle.text.specs.declared.words.Run.{Run}
 use Rattle.text.specs.declared.words.Run.TheVariants as run

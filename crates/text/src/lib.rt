@@ -1,6 +1,7 @@
 // Numbers and doubles as text: bits of doubles, hex and decimal digits, and areas of samples as runs
 // of hex digits.
 #![tactic(auto)]
+
 mod areas;
 mod bits;
 mod digits;

@@ -1,5 +1,6 @@
 // Two test tones at 48,000 frames a second: 440 Hz in the first channel and 1,000 Hz in the second.
 #![tactic(auto)]
+
 ghost use Rattle.std.specs.Prelude.{◌*◌, ◌≤◌, length};
 
 use options::{say, say_number, say_start};

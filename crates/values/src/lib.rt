@@ -1,6 +1,7 @@
 // A double as a decimal that a person can read, and beside it the double's bits. See `decimal_of` in
 // specs/Texts.antt for the decimal: rounded to 15 decimals, `~0` for what rounds to 0, `?` from 2^64 on.
 #![tactic(auto)]
+
 mod digits;
 mod rounding;
 mod sizes;

@@ -4,6 +4,7 @@
 // `cosine_at` and `sine_at`, which are lent the table, are for our own crates: who calls them has it made
 // once, by `quarter::quarter_wave`.
 #![tactic(auto)]
+
 ghost use Rattle.std.specs.Prelude.{◌≡◌, ◌<◌, ◌≤◌, true, [], pos, neg_ℤ};
 ghost use Rattle.std.specs.Float.{binary64};
 ghost use Rattle.std.specs.Float.Ieee.{of_int, to_signed};

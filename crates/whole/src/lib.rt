@@ -4,6 +4,7 @@
 // The public functions deal with the sign: of a negative x the size -x goes to `part`, `over` or
 // `near`, and the sign is put back. So a zero keeps its sign, and a number that goes to zero too.
 #![tactic(auto)]
+
 ghost use Rattle.std.specs.Prelude.{◌≡◌, false};
 ghost use Rattle.std.specs.Float.Ieee.{lt};
 ghost use Rattle.exact.specs.Doubles.{zero_f};

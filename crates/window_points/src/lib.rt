@@ -1,6 +1,7 @@
 // The points of a window, in an area that is lent. `point_at`, which is lent the quarter wave, is for our
 // own crates.
 #![tactic(auto)]
+
 ghost use Rattle.std.specs.Prelude.{◌≡◌, ◌<◌, ◌≤◌, true, ◌&&◌, length, nat_le};
 ghost use Rattle.quarter.specs.Wave.{wave};
 ghost use Rattle.window_points.specs.Points.{cosine_of, hann_at, blackman_at, harris_at, square_of, point_at};

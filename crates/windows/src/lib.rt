@@ -1,5 +1,6 @@
 // The window kinds, and the cutoff that suits a window at a number of points.
 #![tactic(auto)]
+
 ghost use Rattle.std.specs.Prelude.{◌≡◌, ◌&&◌, [], nat_le, slice_index_or};
 ghost use Rattle.exact.specs.Doubles.{count};
 ghost use Rattle.error.specs.Refusals.{said_answer};

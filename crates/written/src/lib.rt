@@ -2,6 +2,7 @@
 // are taken, how many samples a piece has, which bytes are handed on and that all are written where all went
 // well is proved.
 #![tactic(auto)]
+
 mod writing;
 
 pub use writing::write_frames;

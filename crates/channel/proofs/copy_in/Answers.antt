@@ -1,6 +1,5 @@
 -- `channel::copy_in` meets its contract: each turn copies one sample more. Assumes nothing.
 use mathlib.Core.Path.{refl}
-use Prim.Native.Nat.{◌-◌}
 use native.Mathlib.Omega.{arith}
 use Rattle.channel.proofs.Pasted.{pasted_none, pasted_next, pasted_done}
 use Rattle.channel.proofs.copy_in.Goals as goal

@@ -1,5 +1,4 @@
 -- `channel::move_front` meets its contract: each turn moves one sample, which no turn before it has written. Assumes nothing.
-use Prim.Native.Nat.{◌-◌}
 use native.Mathlib.Omega.{arith}
 use Rattle.channel.specs.Moves.{moved}
 use Rattle.channel.proofs.Pasted.{pasted_none, moved_next, pasted_done}

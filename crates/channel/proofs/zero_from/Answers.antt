@@ -1,5 +1,4 @@
 -- `channel::zero_from` meets its contract: each turn stores one zero more. Assumes nothing.
-use Prim.Native.Nat.{◌-◌}
 use native.Mathlib.Omega.{arith}
 use Rattle.channel.proofs.Pasted.{pasted_none, filled_next, pasted_done}
 use Rattle.channel.proofs.zero_from.Goals as goal

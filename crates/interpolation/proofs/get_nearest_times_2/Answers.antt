@@ -1,6 +1,5 @@
 -- `interpolation::get_nearest_times_2` meets its contract. Assumes nothing.
-use Rattle.std.proofs.Common.{refl, lit≤}
-use Rattle.error.proofs.Ladder.{failed, passed}
+use Rattle.std.proofs.Common.{refl, lit≤, sym, ◌∙◌}
 use Rattle.interpolation.proofs.Answers.{points-next, grid-refused, grid-given}
 use Rattle.interpolation.proofs.get_nearest_times_2.Goals as goal
 
@@ -8,16 +7,16 @@ pub in_range-requires : goal.in_range-requires
 in_range-requires c = tt
 
 pub returns-then-not-in_range : goal.returns-then-not-in_range
-returns-then-not-in_range c = grid-refused _ _ _ _ _ (failed c.in_range.ensures c.if-not-in_range.true)
+returns-then-not-in_range c = grid-refused _ _ _ _ _ (sym c.in_range.ensures ∙ c.if-not-in_range.true)
 
 pub start_of-s-requires : goal.start_of-s-requires
-start_of-s-requires c = passed c.in_range.ensures c.if-not-in_range.false
+start_of-s-requires c = sym c.in_range.ensures ∙ c.if-not-in_range.false
 
 pub place-requires : goal.place-requires
-place-requires c = (c.start_of_lem.ensures.1, lit≤ tt)
+place-requires c = (c.start_of-s.ensures.1, lit≤ tt)
 
 pub place-requires-2 : goal.place-requires-2
-place-requires-2 c = (c.start_of_lem.ensures.1, lit≤ tt)
+place-requires-2 c = (c.start_of-s.ensures.1, lit≤ tt)
 
 pub returns : goal.returns
-returns c = grid-given _ _ _ _ _ _ _ (passed c.in_range.ensures c.if-not-in_range.false) c.start_of_lem.ensures.0 (points-next c.place.ensures (points-next c.place-2.ensures refl))
+returns c = grid-given _ _ _ _ _ _ _ (sym c.in_range.ensures ∙ c.if-not-in_range.false) c.start_of-s.ensures.0 (points-next c.place.ensures (points-next c.place-2.ensures refl))

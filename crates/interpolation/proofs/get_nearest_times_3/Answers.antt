@@ -1,6 +1,5 @@
 -- `interpolation::get_nearest_times_3` meets its contract. Assumes nothing.
-use Rattle.std.proofs.Common.{refl, lit<, lit≤}
-use Rattle.error.proofs.Ladder.{failed, passed}
+use Rattle.std.proofs.Common.{refl, lit<, lit≤, sym, ◌∙◌}
 use Rattle.interpolation.proofs.Range.{in_range_one}
 use Rattle.interpolation.proofs.Answers.{points-next, grid-refused, grid-given}
 use Rattle.interpolation.proofs.get_nearest_times_3.Goals as goal
@@ -9,19 +8,19 @@ pub in_range-requires : goal.in_range-requires
 in_range-requires c = tt
 
 pub returns-then-not-in_range : goal.returns-then-not-in_range
-returns-then-not-in_range c = grid-refused _ _ _ _ _ (failed c.in_range.ensures c.if-not-in_range.true)
+returns-then-not-in_range c = grid-refused _ _ _ _ _ (sym c.in_range.ensures ∙ c.if-not-in_range.true)
 
 pub start_of-s-requires : goal.start_of-s-requires
-start_of-s-requires c = in_range_one 3 c.args.t c.args.factor (lit< tt) (passed c.in_range.ensures c.if-not-in_range.false)
+start_of-s-requires c = in_range_one 3 c.args.t c.args.factor (lit< tt) (sym c.in_range.ensures ∙ c.if-not-in_range.false)
 
 pub place-requires : goal.place-requires
-place-requires c = (c.start_of_lem.ensures.1, lit≤ tt)
+place-requires c = (c.start_of-s.ensures.1, lit≤ tt)
 
 pub place-requires-2 : goal.place-requires-2
-place-requires-2 c = (c.start_of_lem.ensures.1, lit≤ tt)
+place-requires-2 c = (c.start_of-s.ensures.1, lit≤ tt)
 
 pub place-requires-3 : goal.place-requires-3
-place-requires-3 c = (c.start_of_lem.ensures.1, lit≤ tt)
+place-requires-3 c = (c.start_of-s.ensures.1, lit≤ tt)
 
 pub returns : goal.returns
-returns c = grid-given _ _ _ _ _ _ _ (passed c.in_range.ensures c.if-not-in_range.false) c.start_of_lem.ensures.0 (points-next c.place.ensures (points-next c.place-2.ensures (points-next c.place-3.ensures refl)))
+returns c = grid-given _ _ _ _ _ _ _ (sym c.in_range.ensures ∙ c.if-not-in_range.false) c.start_of-s.ensures.0 (points-next c.place.ensures (points-next c.place-2.ensures (points-next c.place-3.ensures refl)))

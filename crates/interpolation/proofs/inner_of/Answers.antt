@@ -7,7 +7,11 @@ use Rattle.interpolation.proofs.inner_of.Goals as goal
 
 pub truncating_f64_to_i64-index-requires : goal.truncating_f64_to_i64-index-requires
 truncating_f64_to_i64-index-requires c = let w = cast c.args.t c.args.factor (subst T (sym c.well_formed.0.1) tt) c.requires in
-    subst (λ (s : Parts). T (le (fin true 1 (pos 63)) s.floor) × T (lt s.floor (fin false 1 (pos 63)))) (sym c.split-s.ensures) (w.0, w.1)
+    let e = sym c.split-s.ensures in
+    record {
+      lower_bound = subst (λ (s : Parts). T (le (fin true 1 (pos 63)) s.floor)) e w.0;
+      upper_bound = subst (λ (s : Parts). T (lt s.floor (fin false 1 (pos 63)))) e w.1;
+    }
 
 pub returns : goal.returns
 returns c = inner_is c.args.t c.args.factor (subst T (sym c.well_formed.0.1) tt) c.requires _ _ _

@@ -6,6 +6,7 @@ use Rattle.interpolation.proofs.Integers.{lowered}
 use Rattle.interpolation.proofs.Carries.{Begun, carried_none, carried_next, carried_fits, carried_done}
 use Rattle.interpolation.proofs.place.Goals as goal
 
+-- where the loop begins
 module _ (start : Start) (factor ahead : ℕ) (h : nat_abs start.index ≤ 4503599627370496) (P : 0 < factor) where
   begun : Begun start factor ahead (to_z w64 (of_z w64 (to_z w64 (of_z w64 start.index) -ℤ pos 1))) (start.parts + factor + ahead - 1)
   begun = record { lower = (lowered start.index h).1; further = omega arith }
@@ -32,7 +33,7 @@ pub loop-parts-smaller : goal.loop-parts-smaller
 loop-parts-smaller c = omega arith
 
 pub loop-parts-preserved : goal.loop-parts-preserved
-loop-parts-preserved c = carried_next _ c.loop-parts.invariant (omega arith) (to_z-of_z w64 _ (add-index c))
+loop-parts-preserved c = carried_next _ c.loop-parts.invariant (omega arith) (to_z-of_z w64 _ (overflow_add-index c))
 
 pub returns : goal.returns
 returns c = carried_done (begun c.args.start c.args.factor c.args.ahead c.requires.0.0 c.requires.0.2) c.loop-parts.invariant (omega arith)

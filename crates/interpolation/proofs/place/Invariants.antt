@@ -1,10 +1,9 @@
 -- `interpolation::place` meets its contract. The invariant: each turn has moved one whole time from the parts to the index. Assumes nothing.
-use Rattle.std.proofs.Common.{◌-◌, w64, to_z}
 use Rattle.interpolation.proofs.Carries.{Carried}
 use Rattle.interpolation.proofs.place.Given as goal
 
 abbrev pub invariant-loop-parts : goal.invariant-loop-parts
-invariant-loop-parts l = Carried l.factor (to_z w64 l.initial.index) l.initial.parts (to_z w64 l.index) l.parts
+invariant-loop-parts l = Carried l.factor l.initial.index l.initial.parts l.index l.parts
 
 abbrev pub decreases-loop-parts : goal.decreases-loop-parts
 decreases-loop-parts l = l.parts

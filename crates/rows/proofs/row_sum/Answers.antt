@@ -1,5 +1,4 @@
 -- `rows::row_sum` is the row's sum. The loop's invariant: the rest of the run from here gives what the whole run gives. Assumes nothing.
-use Prim.Native.Nat.{◌-◌}
 use native.Mathlib.Omega.{arith}
 use borrow.Author.Rules.{rules}
 use mir.Syntax.{w32}

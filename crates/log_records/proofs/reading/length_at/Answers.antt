@@ -1,7 +1,6 @@
 -- `log_records::reading::length_at` meets its contract: each test that fails is one of a record's. Assumes nothing.
 use mathlib.Core.Path.{sym, ◌∙◌}
 use native.Mathlib.Omega.{arith}
-use Rattle.error.proofs.Ladder.{failed, passed}
 use Rattle.log_records.proofs.Places.{none_short, none_cut, none_head, none_long, none_sum, some_length}
 use Rattle.log_records.proofs.reading.length_at.Goals as goal
 
@@ -15,7 +14,7 @@ returns-then-log-at-lt7 c = let a = c.args in
 
 pub returns-then-not-head_agrees : goal.returns-then-not-head_agrees
 returns-then-not-head_agrees c = let a = c.args in
-    none_head a.log.now a.at (failed c.head_agrees.ensures c.if-not-head_agrees.true)
+    none_head a.log.now a.at (sym c.head_agrees.ensures ∙ c.if-not-head_agrees.true)
 
 pub returns-then-n-gt64 : goal.returns-then-n-gt64
 returns-then-n-gt64 c = let a = c.args in
@@ -27,9 +26,9 @@ returns-then-log-at c = let a = c.args in
 
 pub returns-then-sum_agrees : goal.returns-then-sum_agrees
 returns-then-sum_agrees c = let a = c.args in
-    some_length a.log.now a.at c.two_at-n.result (passed c.head_agrees.ensures c.if-not-head_agrees.false) c.two_at-n.ensures.0 (omega arith) (omega arith)
-    (sym c.sum_Agrees.ensures ∙ c.if-sum_agrees.true)
+    some_length a.log.now a.at c.two_at-n.result (sym c.head_agrees.ensures ∙ c.if-not-head_agrees.false) c.two_at-n.ensures.0 (omega arith) (omega arith)
+    (sym c.sum_agrees.ensures ∙ c.if-sum_agrees.true)
 
 pub returns-else-sum_agrees : goal.returns-else-sum_agrees
 returns-else-sum_agrees c = let a = c.args in
-    none_sum a.log.now a.at (sym c.sum_Agrees.ensures ∙ c.if-sum_agrees.false)
+    none_sum a.log.now a.at (sym c.sum_agrees.ensures ∙ c.if-sum_agrees.false)

@@ -8,23 +8,19 @@ pub returns-then-n-lt7 : goal.returns-then-n-lt7
 returns-then-n-lt7 c = read_none _ _ _ c.length_at-n.ensures c.if-n-lt7.true
 
 pub overflow_add-result : goal.overflow_add-result
-overflow_add-result c = let a = c in
-    let r = read_room a.args.log.now a.args.at _ c.length_at-n.ensures c.if-n-lt7.false in
+overflow_add-result c = let r = read_room c.args.log.now c.args.at _ c.length_at-n.ensures c.if-n-lt7.false in
     search rules
 
 pub bounds-log-at : goal.bounds-log-at
-bounds-log-at c = let a = c in
-    let r = read_room a.args.log.now a.args.at _ c.length_at-n.ensures c.if-n-lt7.false in
+bounds-log-at c = let r = read_room c.args.log.now c.args.at _ c.length_at-n.ensures c.if-n-lt7.false in
     omega arith
 
 pub overflow_add-result-2 : goal.overflow_add-result-2
-overflow_add-result-2 c = let a = c in
-    let r = read_room a.args.log.now a.args.at _ c.length_at-n.ensures c.if-n-lt7.false in
+overflow_add-result-2 c = let r = read_room c.args.log.now c.args.at _ c.length_at-n.ensures c.if-n-lt7.false in
     search rules
 
 pub overflow_add-result-3 : goal.overflow_add-result-3
-overflow_add-result-3 c = let a = c in
-    let r = read_room a.args.log.now a.args.at _ c.length_at-n.ensures c.if-n-lt7.false in
+overflow_add-result-3 c = let r = read_room c.args.log.now c.args.at _ c.length_at-n.ensures c.if-n-lt7.false in
     search rules
 
 pub returns : goal.returns

@@ -3,5 +3,4 @@ use Rattle.log_records.proofs.Places.{sum_at}
 use Rattle.log_records.proofs.reading.sum_agrees.Goals as goal
 
 pub returns : goal.returns
-returns c = let a = c in
-    sum_at a.args.log.now a.args.at a.args.n _ _ a.requires.0 c.two_at.ensures.0 c.total_of.ensures.0
+returns c = sum_at c.args.log.now c.args.at c.args.n _ _ c.requires.0 c.two_at.ensures.0 c.total_of.ensures.0

@@ -1,5 +1,4 @@
 -- `log_records::reading::total_of` meets its contract: each turn adds one byte more. Assumes nothing.
-use Prim.Native.Nat.{◌-◌}
 use native.Mathlib.Omega.{arith}
 use Rattle.log_records.proofs.Sums.{added_none, added_next, added_done}
 use Rattle.log_records.proofs.reading.total_of.Goals as goal

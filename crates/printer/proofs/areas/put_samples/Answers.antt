@@ -1,5 +1,5 @@
 -- `printer::areas::put_samples` meets its contract: each turn puts one sample more. Assumes nothing.
-use Prim.Native.Nat.{◌-◌, ◌*◌}
+use Prim.Native.Nat.{◌*◌}
 use native.Mathlib.Omega.{arith}
 use lib.ListN.{length}
 use Rattle.printer.proofs.Pastes.{pasted_none, pasted_done}
@@ -13,9 +13,6 @@ pub loop-k-preserved : goal.loop-k-preserved
 loop-k-preserved c = let l = c.loop-k in
     let a = c.args in
     (omega arith, sample_next _ _ a.xs.now _ _ l.k _ _ l.invariant.1 (omega arith) (omega arith) c.bits_of.ensures c.put_hex.ensures)
-
-pub shape_of-out : goal.shape_of-out
-shape_of-out c = c.loop-k.invariant.1.long
 
 pub returns : goal.returns
 returns c = pasted_done _ _ _ _ (16 * c.loop-k.k) (16 * length c.args.xs.now) c.loop-k.invariant.1 (omega arith)

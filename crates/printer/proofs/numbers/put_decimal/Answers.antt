@@ -6,4 +6,4 @@ use Rattle.printer.proofs.numbers.put_decimal.Goals as goal
 pub returns : goal.returns
 returns c = let a = c.args in
     let e = c.decimal-k.ensures in
-    record { place = (same_text a.out.now a.at _ _ _ _ (decimal_is c.decimal-k.result a.n c.ranges.n.fits e.1.0 _ e.1.1) c.put_bytes.ensures).0; put = (same_text a.out.now a.at _ _ _ _ (decimal_is c.decimal-k.result a.n c.ranges.n.fits e.1.0 _ e.1.1) c.put_bytes.ensures).1 }
+    let p = same_text a.out.now a.at _ _ _ _ (decimal_is c.decimal-k.result a.n c.ranges.n.fits e.len _ e.digits) (c.put_bytes.ensures.place, c.put_bytes.ensures.put) in record { place = p.0; put = p.1 }

@@ -1,5 +1,4 @@
 -- `text::digits::put_hex` meets its contract: each turn puts one digit more. Assumes nothing.
-use Prim.Native.Nat.{◌-◌}
 use native.Mathlib.Omega.{arith}
 use Rattle.text.proofs.Glyphs.{put_none, put_next, put_done}
 use Rattle.text.proofs.digits.put_hex.Goals as goal

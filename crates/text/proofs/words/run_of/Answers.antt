@@ -1,5 +1,4 @@
 -- `text::words::run_of` meets its contract: each turn reads one byte more. Assumes nothing.
-use Prim.Native.Nat.{◌-◌}
 use native.Mathlib.Omega.{arith}
 use Rattle.text.proofs.Runs.{come_none, come_next, come_whole}
 use Rattle.text.proofs.words.run_of.Goals as goal

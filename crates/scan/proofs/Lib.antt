@@ -1,0 +1,2 @@
+-- A byte's place in a list: proofs.
+mod Steps
