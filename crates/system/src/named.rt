@@ -1,4 +1,6 @@
 // Files by their names. A name is bytes, and std wants it as text.
+ghost use Rattle.std.specs.Prelude.{◌≤◌, length};
+
 use crate::System;
 use crate::failing::{INVALID, NO_TEXT, TOO_LONG};
 use std::fs::{File, OpenOptions};
@@ -7,13 +9,16 @@ use std::{fs, io};
 // How long a name can be, the 0 behind it among them.
 const MOST: usize = 4096;
 
-fn has_zero(name: &[u8]) -> bool {
-    for b in name {
+// How many bytes stand before the first 0.
+pub fn up_to_zero(name: &[u8]) -> usize
+    ensures { result ≤ length name.now }
+{
+    for (at, b) in name.iter().enumerate() {
         if *b == 0 {
-            return true;
+            return at;
         }
     }
-    false
+    name.len()
 }
 
 // The name as text.
@@ -21,7 +26,7 @@ pub fn text_of(name: &[u8]) -> io::Result<&str> {
     if name.len() >= MOST {
         return Err(io::Error::from_raw_os_error(TOO_LONG));
     }
-    if has_zero(name) {
+    if up_to_zero(name) < name.len() {
         return Err(io::Error::from_raw_os_error(INVALID));
     }
     match std::str::from_utf8(name) {

@@ -1,33 +1,37 @@
-// What the system knows of a file.
+// What the system tells of a file.
+ghost use Rattle.std.specs.Prelude.{◌≡◌, ◌≢◌, pos};
+
 use crate::failing::NOT_OPEN;
-use crate::named::text_of;
+use crate::named::{text_of, up_to_zero};
 use crate::opened::place_of;
 use crate::{ERROR, INPUT, OUTPUT, ROOM, System};
 use std::fs::Metadata;
 use std::os::unix::fs::MetadataExt;
 use std::{fs, io};
 
-// Of a file, where `known` says so, and else zeros.
+// `mode` has the kind of file and who may do what with it, `special` is the device that a special file
+// stands for.
 #[derive(Clone, Copy)]
 pub struct Record {
-    pub known: bool,
     pub device: u64,
     pub inode: u64,
     pub mode: u32,
+    pub special: u64,
     pub size: i64,
 }
 
 fn told(m: &Metadata) -> Record {
     Record {
-        known: true,
         device: m.dev(),
         inode: m.ino(),
         mode: m.mode(),
+        special: m.rdev(),
         size: m.size().cast_signed(),
     }
 }
 
 impl System {
+    // std tells of a standard stream only by its name.
     fn metadata(&self, fd: i32) -> io::Result<Metadata> {
         if fd == INPUT {
             return fs::metadata(&self.rt, "/proc/self/fd/0");
@@ -48,34 +52,39 @@ impl System {
         }
     }
 
-    fn record(&mut self, asked: io::Result<Metadata>) -> Record {
+    // Fills the record where the system has told: 0, or -1 where it has not.
+    fn filled(&mut self, asked: io::Result<Metadata>, about: &mut Record) -> i32
+        ensures { result ≢ pos 0 → about.new ≡ about.old }
+    {
         match asked {
-            Ok(m) => told(&m),
+            Ok(m) => {
+                *about = told(&m);
+                0
+            }
             Err(e) => {
                 self.failed(e);
-                Record {
-                    known: false,
-                    device: 0,
-                    inode: 0,
-                    mode: 0,
-                    size: 0,
-                }
+                -1
             }
         }
     }
 
-    // Of an open file.
-    pub fn record_of(&mut self, fd: i32) -> Record {
+    // Fills the record with what is known of an open file: 0, or -1 and the record as it was.
+    pub fn stat_open(&mut self, fd: i32, about: &mut Record) -> i32
+        ensures { result ≢ pos 0 → about.new ≡ about.old }
+    {
         let asked = self.metadata(fd);
-        self.record(asked)
+        self.filled(asked, about)
     }
 
-    // Of the file with this name, or at the end of the links there.
-    pub fn record_at(&mut self, name: &[u8]) -> Record {
-        let asked = match text_of(name) {
+    // The same of the file at a path, which goes up to its first 0, or at the end of the links there.
+    pub fn stat_named(&mut self, path: &[u8], about: &mut Record) -> i32
+        ensures { result ≢ pos 0 → about.new ≡ about.old }
+    {
+        let end = up_to_zero(path);
+        let asked = match text_of(&path[..end]) {
             Ok(text) => fs::metadata(&self.rt, text),
             Err(e) => Err(e),
         };
-        self.record(asked)
+        self.filled(asked, about)
     }
 }
