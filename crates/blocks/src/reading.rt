@@ -28,15 +28,15 @@ fn read_more(fd: i32, bytes: &mut [u8], f: Filled, want: usize) -> Filled
     ensures { result.count ≤ want }
 {
     let at = f.count;
-    let got = libc::read(fd, &mut bytes[at..want]);
-    if got <= 0 {
+    let got = sys.read(fd, &mut bytes[at..want]);
+    let n = got.count;
+    if n == 0 {
         return Filled {
             count: at,
             open: false,
-            failed: got < 0,
+            failed: got.failed,
         };
     }
-    let n = io::count(got, &bytes[at..want]);
     Filled {
         count: at + n,
         open: at + n < want,

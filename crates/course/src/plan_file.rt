@@ -81,7 +81,7 @@ pub fn plan_holds(fd: i32, bytes: &mut [u8]) -> bool {
     if !is_plan(fd, bytes) {
         return false;
     }
-    if libc::lseek(fd, 0, libc::SEEK_SET) != 0 {
+    if !sys.rewind(fd) {
         os::fail(b"resample: the plan must be a file that can be read twice");
         return false;
     }

@@ -53,9 +53,7 @@ fn say_progress(p: Pass, files: Files, channels: usize) {
 
 // The clock's second.
 pub fn second_now() -> i64 {
-    let mut now: i64 = 0;
-    libc::time(&mut now);
-    now
+    sys.second()
 }
 
 // Says how far the pass is when the clock's second has changed.

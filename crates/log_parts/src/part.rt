@@ -45,12 +45,11 @@ pub fn more(p: Part, fd: i32, buf: &mut [u8]) -> Part
     let end = p.end;
     move_front(buf, at, end);
     let n = end - at;
-    let got = libc::read(fd, &mut buf[n..]);
-    let k = io::count(got, &buf[n..]);
+    let got = sys.read(fd, &mut buf[n..]);
     Part {
         at: 0,
-        end: n + k,
-        last: got <= 0,
-        failed: got < 0,
+        end: n + got.count,
+        last: got.count == 0,
+        failed: got.failed,
     }
 }

@@ -2,13 +2,7 @@
 
 // Fills the lowest descriptor that is closed, if it is a standard stream; whether it was one.
 fn fill_one() -> bool {
-    let fd = os::open_read(b"/dev/null");
-    if fd >= 2 {
-        libc::close(fd);
-    }
-    if fd == 2 {
-        os::open_update(b"/dev/null");
-    }
+    let fd = sys.stand_in();
     (fd >= 0) & (fd < 3)
 }
 

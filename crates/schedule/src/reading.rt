@@ -93,14 +93,13 @@ fn to_front(bytes: &mut [u8], at: usize, held: usize)
 fn read_on(fd: i32, bytes: &mut [u8], held: usize, line: u64) -> Cursor
     requires { held ≤ length bytes.old }
 {
-    let got = libc::read(fd, &mut bytes[held..]);
-    let n = io::count(got, &bytes[held..]);
+    let got = sys.read(fd, &mut bytes[held..]);
     Cursor {
         at: 0,
-        end: held + n,
+        end: held + got.count,
         line,
-        ended: got <= 0,
-        failed: got < 0,
+        ended: got.count == 0,
+        failed: got.failed,
     }
 }
 

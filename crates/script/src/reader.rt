@@ -43,8 +43,8 @@ fn filled(buf: &mut [u8], input: Input) -> Input {
     if !input.open {
         return input;
     }
-    let got = libc::read(libc::STDIN_FILENO, buf);
-    let n = io::count(got, buf);
+    let got = sys.read(system::INPUT, buf);
+    let n = got.count;
     Input {
         at: 0,
         end: n,

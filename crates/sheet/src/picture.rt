@@ -10,7 +10,7 @@ fn is_put(fd: i32, text: &[u8]) -> bool {
     let all = io::write_all(fd, text);
     if !all {
         os::fail(b"sheet: writing the picture");
-        libc::ftruncate(fd, 0);
+        sys.empty(fd);
     }
     let closed = libc::close(fd) == 0;
     if !closed {

@@ -10,9 +10,7 @@ pub struct Clock {
 }
 
 fn second_now() -> i64 {
-    let mut now: i64 = 0;
-    libc::time(&mut now);
-    now
+    sys.second()
 }
 
 pub fn clock_now() -> Clock {
