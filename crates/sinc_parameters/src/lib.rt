@@ -2,6 +2,7 @@
 // one field changed. A setter of a field that is an enum puts the record together anew, since such a
 // field is not stored to by itself.
 #![tactic(auto)]
+
 ghost use Rattle.std.specs.Prelude.{◌≡◌};
 ghost use Rattle.sinc_parameters.specs.Parameters.{new_of, default_of, with_sinc_len, with_window, with_cutoff, with_factor, with_interpolation};
 
