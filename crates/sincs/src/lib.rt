@@ -1,5 +1,6 @@
 // The table of windowed sincs, in an area that is lent: the sum of its values first, the entries after it.
 #![tactic(auto)]
+
 ghost use Rattle.std.specs.Prelude.{◌≡◌, ◌*◌, ◌<◌, true, ◌&&◌, length};
 ghost use Rattle.whole.specs.Small.{small};
 ghost use Rattle.quarter.specs.Wave.{wave};
