@@ -1,5 +1,6 @@
 // The sum of a table, by which a pass can name it: over the bits of its entries, in order, in Fletcher's way.
 #![tactic(auto)]
+
 ghost use Rattle.std.specs.Prelude.{◌≡◌};
 ghost use Rattle.table_sum.specs.Sum.{plus_entry, sum_of};
 
