@@ -1,0 +1,17 @@
+-- `path::look_within` meets its contract. The invariant: the moment and the answer are those of the frames so far. Assumes nothing.
+use Prim.Native.Nat.{◌-◌}
+use native.Mathlib.Omega.{arith}
+use Rattle.path.specs.Turns.{is_within}
+use Rattle.path.proofs.Path.{along_none, along_next, along_done}
+use Rattle.path.proofs.look_within.Goals as goal
+
+pub loop-f-init : goal.loop-f-init
+loop-f-init c = (omega arith, along_none _ _ _ _)
+
+pub loop-f-preserved : goal.loop-f-preserved
+loop-f-preserved c = let l = c.loop-f in
+    let m = c.step_index-at in
+    (omega arith, along_next _ _ _ _ l.at m.result l.reach _ l.f l.invariant.1 m.ensures c.is_within-reach.ensures)
+
+pub returns : goal.returns
+returns c = let l = c.loop-f in record { reach = (along_done _ _ _ _ l.at l.reach l.f _ l.invariant.1 (omega arith)).0; index = (along_done _ _ _ _ l.at l.reach l.f _ l.invariant.1 (omega arith)).1 }
