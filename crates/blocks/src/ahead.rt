@@ -6,6 +6,7 @@ ghost use Rattle.blocks.specs.Blocks.{riff_mark, held_to, left_in, fits, goes_on
 
 use crate::reading::{Piece, read_area, read_pieces};
 use samples::takes;
+use system::System;
 
 // Whole frames that were read; whether a further one stands in `held`; whether no whole frame is behind the
 // last one; the bytes of a broken frame at the end; whether the input starts as a WAV file does; whether a
@@ -56,7 +57,7 @@ fn is_riff(bytes: &[u8]) -> bool
 }
 
 // The first frame of the input into `held`.
-pub fn read_first(fd: i32, held: &mut [f64], channels: usize) -> Reading
+pub fn read_first(sys: &mut System, fd: i32, held: &mut [f64], channels: usize) -> Reading
     ensures next_read { taken channels 1 (length held.old) ≡ true → NextRead channels held.old held.new result.held result.ended result.left }
     ensures held_unchanged { taken channels 1 (length held.old) ≡ false → (held.new ≡ held.old) × (result.held ≡ false) × (result.failed ≡ true) }
 {
@@ -64,7 +65,7 @@ pub fn read_first(fd: i32, held: &mut [f64], channels: usize) -> Reading
         return unread(false, true);
     }
     let mut bytes = [0u8; 8192];
-    let p = read_pieces(fd, &mut bytes, held, channels, 1, channels, 0, false);
+    let p = read_pieces(sys, fd, &mut bytes, held, channels, 1, channels, 0, false);
     Reading {
         frames: 0,
         held: !p.ended,
@@ -102,6 +103,7 @@ fn reading_of(p: Piece, next: Piece, channels: usize) -> Reading
 
 // The held frame, those behind it, and the next one to hold.
 fn read_behind(
+    sys: &mut System,
     fd: i32,
     input: &mut [f64],
     held: &mut [f64],
@@ -112,8 +114,8 @@ fn read_behind(
     ensures { FramesRead channels share input.old input.new held.old held.new result.frames result.held result.ended result.left }
 {
     put_held(held, input, channels, share);
-    let p = read_area(fd, input, channels, share, channels, false);
-    let next = read_area(fd, held, channels, 1, 0, p.ended);
+    let p = read_area(sys, fd, input, channels, share, channels, false);
+    let next = read_area(sys, fd, held, channels, 1, 0, p.ended);
     reading_of(p, next, channels)
 }
 
@@ -121,6 +123,7 @@ fn read_behind(
 // one is read into `held`. Where none is held, none is asked for or there is no place nothing is read: a held
 // frame stays held, and `ended` says that there is none.
 pub fn read_frames(
+    sys: &mut System,
     fd: i32,
     input: &mut [f64],
     held: &mut [f64],
@@ -135,5 +138,5 @@ pub fn read_frames(
     if !(fit & has_held & (share > 0)) {
         return unread(has_held, !fit);
     }
-    read_behind(fd, input, held, channels, share)
+    read_behind(sys, fd, input, held, channels, share)
 }

@@ -3,6 +3,7 @@ ghost use Rattle.std.specs.Prelude.{◌&&◌, not, ◌≡◌, ◌*◌, ◌<◌, 
 ghost use Rattle.blocks.specs.Blocks.{PieceRead, PiecesRead};
 
 use samples::{least, samples_in, spread};
+use system::System;
 
 // So many bytes have been read. `open` says that there may be more, `failed` that a read failed.
 #[derive(Clone, Copy)]
@@ -23,20 +24,20 @@ pub struct Piece {
 }
 
 // One read more, up to `want` bytes in all.
-fn read_more(fd: i32, bytes: &mut [u8], f: Filled, want: usize) -> Filled
+fn read_more(sys: &mut System, fd: i32, bytes: &mut [u8], f: Filled, want: usize) -> Filled
     requires { (f.count ≤ want) × (want ≤ length bytes.old) }
     ensures { result.count ≤ want }
 {
     let at = f.count;
-    let got = libc::read(fd, &mut bytes[at..want]);
-    if got <= 0 {
+    let got = sys.read(fd, &mut bytes[at..want]);
+    let n = got.count;
+    if n == 0 {
         return Filled {
             count: at,
             open: false,
-            failed: got < 0,
+            failed: got.failed,
         };
     }
-    let n = io::count(got, &bytes[at..want]);
     Filled {
         count: at + n,
         open: at + n < want,
@@ -49,7 +50,7 @@ fn is_open(f: Filled) -> bool {
 }
 
 // Reads `want` bytes, or fewer where the input ends or a read fails.
-fn fill(fd: i32, bytes: &mut [u8], want: usize) -> Filled
+fn fill(sys: &mut System, fd: i32, bytes: &mut [u8], want: usize) -> Filled
     requires { want ≤ length bytes.old }
     ensures { result.count ≤ want }
 {
@@ -60,7 +61,7 @@ fn fill(fd: i32, bytes: &mut [u8], want: usize) -> Filled
     };
     let mut turns = u64::MAX;
     while turns > 0 && is_open(f) {
-        f = read_more(fd, bytes, f, want);
+        f = read_more(sys, fd, bytes, f, want);
         turns -= 1;
     }
     f
@@ -68,6 +69,7 @@ fn fill(fd: i32, bytes: &mut [u8], want: usize) -> Filled
 
 // Behind `done` samples as many more as the buffer holds.
 fn read_piece(
+    sys: &mut System,
     fd: i32,
     bytes: &mut [u8],
     area: &mut [f64],
@@ -80,7 +82,7 @@ fn read_piece(
     ensures { PieceRead (length bytes.old) channels share most done area.old area.new result.samples result.rest result.ended }
 {
     let want = least(bytes.len() / 8, most - done);
-    let filled = fill(fd, bytes, 8 * want);
+    let filled = fill(sys, fd, bytes, 8 * want);
     let count = filled.count;
     let n = count / 8;
     spread(bytes, n, area, channels, share, done);
@@ -101,6 +103,7 @@ fn wants_more(p: Piece, most: usize) -> bool
 // The samples behind `done` of an area of `share` frames, in pieces: none where the input is over. Each
 // turn reads one or more, or finds the end.
 pub fn read_pieces(
+    sys: &mut System,
     fd: i32,
     bytes: &mut [u8],
     area: &mut [f64],
@@ -121,7 +124,7 @@ pub fn read_pieces(
     };
     let mut turns = most;
     while turns > 0 && wants_more(p, most) {
-        p = read_piece(fd, bytes, area, channels, share, most, p.samples);
+        p = read_piece(sys, fd, bytes, area, channels, share, most, p.samples);
         turns -= 1;
     }
     p
@@ -129,6 +132,7 @@ pub fn read_pieces(
 
 // The same with a buffer of its own.
 pub fn read_area(
+    sys: &mut System,
     fd: i32,
     area: &mut [f64],
     channels: usize,
@@ -141,5 +145,5 @@ pub fn read_area(
 {
     let most = samples_in(channels, share);
     let mut bytes = [0u8; 8192];
-    read_pieces(fd, &mut bytes, area, channels, share, most, done, over)
+    read_pieces(sys, fd, &mut bytes, area, channels, share, most, done, over)
 }

@@ -5,22 +5,23 @@
 ghost use Rattle.std.specs.Prelude.{◌≡◌, length};
 
 use commands::{begin, serve};
-use libc::STDOUT_FILENO;
 use printer::{bytes_of, put_byte};
+use system::{OUTPUT, System};
 
 // The answer of so many bytes with its newline, all of it written. False where there is no answer since
 // the input is over, or where a write has failed.
-fn written(out: &mut [u8], end: usize) -> bool {
+fn written(sys: &mut System, out: &mut [u8], end: usize) -> bool {
     if end == 0 {
         return false;
     }
     let after = put_byte(out, end, 10);
     let n = bytes_of(out, after);
-    io::write_all(STDOUT_FILENO, &out[..n])
+    sys.write_all(OUTPUT, &out[..n])
 }
 
 // Nothing says that the input ends, so the turns are counted down from a number that no run uses up.
 fn serve_all(
+    sys: &mut System,
     buf: &mut [u8],
     out: &mut [u8],
     input: &mut [f64],
@@ -33,8 +34,8 @@ fn serve_all(
     let mut going = true;
     let mut turns = u64::MAX;
     while turns > 0 && going {
-        s = serve(s, buf, out, input, output, work, table, bytes);
-        going = written(out, s.end);
+        s = serve(sys, s, buf, out, input, output, work, table, bytes);
+        going = written(sys, out, s.end);
         turns -= 1;
     }
 }
@@ -47,7 +48,9 @@ fn answer_buffer() -> [u8; 2098176]
     [0; 2098176]
 }
 
-fn main() {
+fn main(rt: HostRuntime) {
+    let mut system = System::new(rt);
+    let sys = &mut system;
     let mut buf = io::large_buffer();
     let mut out = answer_buffer();
     let mut input = [0.0; 131072];
@@ -56,6 +59,7 @@ fn main() {
     let mut table = [0.0; 262144];
     let mut bytes = [0; 262144];
     serve_all(
+        sys,
         &mut buf,
         &mut out,
         &mut input,

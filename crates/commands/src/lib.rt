@@ -19,6 +19,7 @@ use script::reader::Input;
 use script::values::{Values, float_at};
 use script::words::Command;
 use sheet_words::Live;
+use system::System;
 
 // What is kept from line to line, the line and the log along the calls, and the input behind the line. The
 // answer has `end` bytes; it has none once the input is over.
@@ -161,6 +162,7 @@ fn answered(
 // Reads a line, runs it, and puts its answer at the start of `out`. `bytes` are those of the line, and
 // behind them stands the log along the calls.
 pub fn serve(
+    sys: &mut System,
     before: Served,
     buf: &mut [u8],
     out: &mut [u8],
@@ -170,6 +172,6 @@ pub fn serve(
     table: &mut [f64],
     bytes: &mut [u8],
 ) -> Served {
-    let line = read_line(before.input, buf, input, output, bytes);
+    let line = read_line(sys, before.input, buf, input, output, bytes);
     answered(line, before, out, input, output, work, table, bytes)
 }

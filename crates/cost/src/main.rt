@@ -7,12 +7,12 @@
 
 mod numbers;
 
-use libc::{STDERR_FILENO, STDOUT_FILENO};
 use printer::samples_of;
 use process::Ran;
 use script::values::{Values, count_at, kind_in, number_at};
 use sizes::FixedAsync;
 use state::{Made, State};
+use system::{ERROR, OUTPUT, System};
 use table_sum::TableSum;
 
 // The record behind the blocks so far, and whether all were accepted.
@@ -78,18 +78,19 @@ fn run(
     t
 }
 
-fn tell(input: u64, output: u64, sum: TableSum) {
-    io::print_decimal(STDOUT_FILENO, input);
-    io::write_all(STDOUT_FILENO, b" ");
-    io::print_decimal(STDOUT_FILENO, output);
-    io::write_all(STDOUT_FILENO, b" ");
-    io::print_hex(STDOUT_FILENO, sum.first, 16);
-    io::print_hex(STDOUT_FILENO, sum.second, 16);
-    io::write_all(STDOUT_FILENO, b"\n");
+fn tell(sys: &mut System, input: u64, output: u64, sum: TableSum) {
+    sys.print_decimal(OUTPUT, input);
+    sys.write_all(OUTPUT, b" ");
+    sys.print_decimal(OUTPUT, output);
+    sys.write_all(OUTPUT, b" ");
+    sys.print_hex(OUTPUT, sum.first, 16);
+    sys.print_hex(OUTPUT, sum.second, 16);
+    sys.write_all(OUTPUT, b"\n");
 }
 
 // The blocks, then the sizes of the next one and the sum of the output.
 fn run_and_tell(
+    sys: &mut System,
     s: State,
     blocks: u64,
     table: &[f64],
@@ -99,11 +100,12 @@ fn run_and_tell(
 ) {
     let t = run(s, blocks, table, input, output, work);
     if !t.good {
-        io::write_all(STDERR_FILENO, b"cost: a block was refused\n");
+        sys.write_all(ERROR, b"cost: a block was refused\n");
         return;
     }
     let next = t.state;
     tell(
+        sys,
         next.input as u64,
         next.output as u64,
         table_sum::sum_of(output),
@@ -122,6 +124,7 @@ fn table_length(s: State) -> usize {
 // On areas of the lengths that the record asks for. A channel's share of the input is as long as that of
 // the working area, which no block needs whole.
 fn run_on(
+    sys: &mut System,
     s: State,
     blocks: u64,
     table: &[f64],
@@ -134,6 +137,7 @@ fn run_on(
     let c = samples_of(output, lent::area_length(s.channels, s.output));
     let d = samples_of(work, lent::work_length(s));
     run_and_tell(
+        sys,
         s,
         blocks,
         &table[..a],
@@ -157,6 +161,7 @@ fn made(values: Values) -> Made {
 
 // What is read is filled as far as the record asks for it.
 fn started(
+    sys: &mut System,
     s: State,
     blocks: u64,
     table: &mut [f64],
@@ -166,10 +171,11 @@ fn started(
 ) {
     fill(table, table_length(s));
     fill(input, lent::work_length(s));
-    run_on(s, blocks, table, input, output, work);
+    run_on(sys, s, blocks, table, input, output, work);
 }
 
 fn measure(
+    sys: &mut System,
     values: Values,
     table: &mut [f64],
     input: &mut [f64],
@@ -177,23 +183,20 @@ fn measure(
     work: &mut [f64],
 ) {
     match made(values) {
-        Made::Ready(s) => started(s, number_at(values, 6), table, input, output, work),
+        Made::Ready(s) => started(sys, s, number_at(values, 6), table, input, output, work),
         Made::Refused(_) => {
-            io::write_all(STDERR_FILENO, b"cost: the record was refused\n");
+            sys.write_all(ERROR, b"cost: the record was refused\n");
         }
     }
 }
 
-fn main() {
+fn main(rt: HostRuntime) {
+    let mut system = System::new(rt);
+    let sys = &mut system;
     let mut table = [0.0; 262144];
     let mut input = [0.0; 131072];
     let mut output = [0.0; 131072];
     let mut work = [0.0; 131072];
-    measure(
-        numbers::read(),
-        &mut table,
-        &mut input,
-        &mut output,
-        &mut work,
-    );
+    let values = numbers::read(sys);
+    measure(sys, values, &mut table, &mut input, &mut output, &mut work);
 }

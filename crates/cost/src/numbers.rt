@@ -1,6 +1,6 @@
 // The numbers on standard input.
-use libc::STDIN_FILENO;
 use script::values::Values;
+use system::{INPUT, System};
 
 // The numbers so far, and the place of the one that is being read.
 #[derive(Clone, Copy)]
@@ -43,8 +43,8 @@ fn numbers_in(text: &[u8]) -> Values {
     r.values
 }
 
-pub fn read() -> Values {
+pub fn read(sys: &mut System) -> Values {
     let mut buf = io::buffer();
-    let n = io::read_full(STDIN_FILENO, &mut buf);
+    let n = sys.read_full(INPUT, &mut buf);
     numbers_in(&buf[..n])
 }

@@ -8,14 +8,16 @@ use cut::KeptFrames;
 use options::Files;
 use pass_line::{PassLine, Step};
 use state::State;
+use system::System;
 use tally::Block;
 use written::write_frames;
 
 // The frames of the blocks before were written; of this one some may have been.
-fn half_written(p: Pass, files: Files) -> Pass {
+fn half_written(sys: &mut System, p: Pass, files: Files) -> Pass {
     let counts = p.counts;
-    os::fail(b"resample: writing the output");
+    sys.fail(b"resample: writing the output");
     stop_told(
+        sys,
         p,
         files,
         b"of block # a part may have been written, behind the frames out that are told below\n",
@@ -23,13 +25,13 @@ fn half_written(p: Pass, files: Files) -> Pass {
     )
 }
 
-fn not_logged(p: Pass) -> Pass {
-    os::fail(b"resample: writing the log");
+fn not_logged(sys: &mut System, p: Pass) -> Pass {
+    sys.fail(b"resample: writing the log");
     stopped(p)
 }
 
 // The line of a block: s is the record before it, p the pass with it.
-fn log_block(log: i32, block: u64, s: State, p: Pass, index: f64) -> bool {
+fn log_block(sys: &mut System, log: i32, block: u64, s: State, p: Pass, index: f64) -> bool {
     let c = p.counts;
     let numbers = [
         block,
@@ -42,6 +44,7 @@ fn log_block(log: i32, block: u64, s: State, p: Pass, index: f64) -> bool {
         c.blocks,
     ];
     pass_line::write_block(
+        sys,
         log,
         b"block # in # out # step $ inc $ index $ N # B #",
         &numbers,
@@ -50,21 +53,21 @@ fn log_block(log: i32, block: u64, s: State, p: Pass, index: f64) -> bool {
 }
 
 // The line of a block in the log.
-fn logged(p: Pass, files: Files, block: u64, s: State, index: f64) -> Pass {
-    if log_block(files.log, block, s, p, index) {
+fn logged(sys: &mut System, p: Pass, files: Files, block: u64, s: State, index: f64) -> Pass {
+    if log_block(sys, files.log, block, s, p, index) {
         return p;
     }
-    not_logged(p)
+    not_logged(sys, p)
 }
 
 // The record of a block in the pass log.
-fn recorded(p: Pass, files: Files, block: u64, s: State, index: f64) -> Pass {
+fn recorded(sys: &mut System, p: Pass, files: Files, block: u64, s: State, index: f64) -> Pass {
     let t = state::step_now(s);
     let d = plan::t_ratio_increment(s);
-    if pass_log::write_block(files.passlog, s.output, s.input, t, d, index) {
+    if pass_log::write_block(sys, files.passlog, s.output, s.input, t, d, index) {
         return p;
     }
-    not_recorded(p, files, block)
+    not_recorded(sys, p, files, block)
 }
 
 // The line with an accepted block of the record s.
@@ -118,6 +121,7 @@ fn is_last(raw: bool, s: State, r: Reading, ended: bool, k: KeptFrames) -> bool 
 // Writes an accepted block of the record s, and then its line and its record, each whatever becomes of the
 // other: neither log speaks of frames that were not written, or lacks a block for the other's sake.
 pub fn accepted(
+    sys: &mut System,
     p: Pass,
     s: State,
     index: f64,
@@ -129,17 +133,25 @@ pub fn accepted(
     let c = p.counts;
     let total = tally::plus(c.given, r.frames as u64);
     let k = kept_of(s, raw, c.used, p.ended, total);
-    if !write_frames(files.output, output, s.channels, s.output, k.from, k.to) {
-        return half_written(p, files);
+    if !write_frames(
+        sys,
+        files.output,
+        output,
+        s.channels,
+        s.output,
+        k.from,
+        k.to,
+    ) {
+        return half_written(sys, p, files);
     }
     let n = counted(p, s, index, r.frames, k);
-    let l = logged(n, files, c.blocks, s, index);
-    let q = recorded(l, files, c.blocks, s, index);
+    let l = logged(sys, n, files, c.blocks, s, index);
+    let q = recorded(sys, l, files, c.blocks, s, index);
     if !q.going {
         return q;
     }
     if is_last(raw, s, r, p.ended, k) {
         return finished(q);
     }
-    progressed(q, files, s.channels)
+    progressed(sys, q, files, s.channels)
 }

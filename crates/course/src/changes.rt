@@ -3,6 +3,7 @@ use crate::pass::{Pass, Plan, Run, not_recorded, refused, run_of, stop_told};
 use asynchro::{Done, Outcome};
 use options::Files;
 use schedule::{Cursor, Entry, Next};
+use system::System;
 
 fn plan_line(kind: u64, block: u64, value: u64, reached: u64, cursor: Cursor) -> Plan {
     Plan {
@@ -30,12 +31,12 @@ pub fn no_plan() -> Plan {
 }
 
 // The next line of the plan, if there is a plan.
-pub fn next_line(fd: i32, bytes: &mut [u8], plan: Plan) -> Plan {
+pub fn next_line(sys: &mut System, fd: i32, bytes: &mut [u8], plan: Plan) -> Plan {
     if fd < 0 {
         return plan;
     }
     let before = plan.cursor;
-    let step = schedule::next_entry(fd, bytes, before);
+    let step = schedule::next_entry(sys, fd, bytes, before);
     let next = step.next;
     let cursor = step.cursor;
     match next {
@@ -46,44 +47,57 @@ pub fn next_line(fd: i32, bytes: &mut [u8], plan: Plan) -> Plan {
 }
 
 // The record of an accepted setting, 1 or 2 as in `changed`.
-fn recorded(p: Pass, files: Files, kind: u64, ratio: u64) -> Pass {
+fn recorded(sys: &mut System, p: Pass, files: Files, kind: u64, ratio: u64) -> Pass {
     let counts = p.counts;
-    if pass_log::write_setting(files.passlog, kind, ratio) {
+    if pass_log::write_setting(sys, files.passlog, kind, ratio) {
         return p;
     }
-    not_recorded(p, files, counts.blocks)
+    not_recorded(sys, p, files, counts.blocks)
 }
 
-fn settled(p: Pass, files: Files, kind: u64, ratio: u64, outcome: Outcome) -> Run {
+fn settled(
+    sys: &mut System,
+    p: Pass,
+    files: Files,
+    kind: u64,
+    ratio: u64,
+    outcome: Outcome,
+) -> Run {
     let state = outcome.state;
     let answer = outcome.answer;
     match answer {
-        Done::Accepted => run_of(state, recorded(p, files, kind, ratio)),
+        Done::Accepted => run_of(state, recorded(sys, p, files, kind, ratio)),
         Done::Refused(r) => {
             let form = b"the ratio change before block # was refused with number #\n";
-            run_of(state, refused(p, files, form, r))
+            run_of(state, refused(sys, p, files, form, r))
         }
     }
 }
 
 // One change: 1 sets the ratio, 2 ramps to it, 3 sets the mask.
-fn changed(run: Run, files: Files, kind: u64, value: u64) -> Run {
+fn changed(sys: &mut System, run: Run, files: Files, kind: u64, value: u64) -> Run {
     let s = run.state;
     let p = run.pass;
     let counts = p.counts;
     let numbers = [counts.blocks, value];
     if kind == 3 {
-        forms::write_form(files.log, b"before block # mask #\n", &numbers);
+        forms::write_form(sys, files.log, b"before block # mask #\n", &numbers);
         let mut q = p;
         q.mask = value;
         return run_of(s, q);
     }
     if kind == 1 {
-        forms::write_form(files.log, b"before block # ratio $\n", &numbers);
+        forms::write_form(sys, files.log, b"before block # ratio $\n", &numbers);
     } else {
-        forms::write_form(files.log, b"before block # ramp to ratio $\n", &numbers);
+        forms::write_form(
+            sys,
+            files.log,
+            b"before block # ramp to ratio $\n",
+            &numbers,
+        );
     }
     settled(
+        sys,
         p,
         files,
         kind,
@@ -93,7 +107,7 @@ fn changed(run: Run, files: Files, kind: u64, value: u64) -> Run {
 }
 
 // The change number k of the words, if it is for this block.
-fn word_change(run: Run, files: Files, k: usize, changes: &[u64]) -> Run {
+fn word_change(sys: &mut System, run: Run, files: Files, k: usize, changes: &[u64]) -> Run {
     let p = run.pass;
     let counts = p.counts;
     if !p.going {
@@ -109,16 +123,16 @@ fn word_change(run: Run, files: Files, k: usize, changes: &[u64]) -> Run {
         return run;
     }
     if changes[3 * k + 2] == 1 {
-        return changed(run, files, 2, changes[3 * k + 1]);
+        return changed(sys, run, files, 2, changes[3 * k + 1]);
     }
-    changed(run, files, 1, changes[3 * k + 1])
+    changed(sys, run, files, 1, changes[3 * k + 1])
 }
 
-fn word_changes(first: Run, files: Files, count: usize, changes: &[u64]) -> Run {
+fn word_changes(sys: &mut System, first: Run, files: Files, count: usize, changes: &[u64]) -> Run {
     let mut run = first;
     for k in 0..16 {
         if k < count {
-            run = word_change(run, files, k, changes);
+            run = word_change(sys, run, files, k, changes);
         }
     }
     run
@@ -137,7 +151,7 @@ fn one_more(n: u64) -> u64 {
 }
 
 // Follows the plan's next line.
-fn plan_change(run: Run, files: Files, bytes: &mut [u8]) -> Run {
+fn plan_change(sys: &mut System, run: Run, files: Files, bytes: &mut [u8]) -> Run {
     let s = run.state;
     let p = run.pass;
     let plan = p.plan;
@@ -147,6 +161,7 @@ fn plan_change(run: Run, files: Files, bytes: &mut [u8]) -> Run {
         return run_of(
             s,
             stop_told(
+                sys,
                 p,
                 files,
                 b"the plan cannot be read behind line #\n",
@@ -162,22 +177,23 @@ fn plan_change(run: Run, files: Files, bytes: &mut [u8]) -> Run {
         cursor,
     );
     let mut q = p;
-    q.plan = next_line(files.plan, bytes, here);
-    changed(run_of(s, q), files, plan.kind, plan.value)
+    q.plan = next_line(sys, files.plan, bytes, here);
+    changed(sys, run_of(s, q), files, plan.kind, plan.value)
 }
 
 // All changes before the next block. The lines of a plan are counted down from a number that none has.
 pub fn before_block(
+    sys: &mut System,
     first: Run,
     files: Files,
     count: usize,
     changes: &[u64],
     bytes: &mut [u8],
 ) -> Run {
-    let mut run = word_changes(first, files, count, changes);
+    let mut run = word_changes(sys, first, files, count, changes);
     let mut turns = u64::MAX;
     while turns > 0 && is_due(run) {
-        run = plan_change(run, files, bytes);
+        run = plan_change(sys, run, files, bytes);
         turns -= 1;
     }
     run

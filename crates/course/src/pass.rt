@@ -4,6 +4,7 @@ use options::{Files, say_refused, say_start};
 use pass_line::PassLine;
 use schedule::Cursor;
 use state::State;
+use system::System;
 use tally::Counts;
 
 // The next line of the plan: 1 sets the ratio, 2 ramps to it, 3 sets the mask, 0 is no line and 4 one that
@@ -70,17 +71,17 @@ pub fn is_going(run: Run) -> bool {
 }
 
 // A line for the operator and, where that is a file, for the log. Whether the log took it.
-pub fn tell(files: Files, form: &[u8], numbers: &[u64]) -> bool {
-    say_start();
-    forms::write_form(libc::STDERR_FILENO, form, numbers);
+pub fn tell(sys: &mut System, files: Files, form: &[u8], numbers: &[u64]) -> bool {
+    say_start(sys);
+    forms::write_form(sys, system::ERROR, form, numbers);
     if !files.log_file {
         return true;
     }
-    forms::write_form(files.log, form, numbers)
+    forms::write_form(sys, files.log, form, numbers)
 }
 
 // The floats that a refusal carries, for the log.
-fn log_carried(log: i32, carried: Carried) {
+fn log_carried(sys: &mut System, log: i32, carried: Carried) {
     let values = carried.values;
     let numbers = [
         text::bits_of(values[0]),
@@ -88,35 +89,36 @@ fn log_carried(log: i32, carried: Carried) {
         text::bits_of(values[2]),
     ];
     if carried.count == 1 {
-        forms::write_form(log, b"it carries $\n", &numbers);
+        forms::write_form(sys, log, b"it carries $\n", &numbers);
     }
     if carried.count == 3 {
-        forms::write_form(log, b"it carries $, $, $\n", &numbers);
+        forms::write_form(sys, log, b"it carries $, $, $\n", &numbers);
     }
 }
 
 // A refusal stops the pass: the operator is told its name and what to do, the log its number and floats.
-pub fn refused(p: Pass, files: Files, form: &[u8], r: Refusal) -> Pass {
+pub fn refused(sys: &mut System, p: Pass, files: Files, form: &[u8], r: Refusal) -> Pass {
     let counts = p.counts;
-    say_start();
-    say_refused(r);
-    tell(files, form, &[counts.blocks, error::number(r)]);
+    say_start(sys);
+    say_refused(sys, r);
+    tell(sys, files, form, &[counts.blocks, error::number(r)]);
     if files.log_file {
-        log_carried(files.log, error::values(r));
+        log_carried(sys, files.log, error::values(r));
     }
     stopped(p)
 }
 
 // A line that stops the pass.
-pub fn stop_told(p: Pass, files: Files, form: &[u8], numbers: &[u64]) -> Pass {
-    tell(files, form, numbers);
+pub fn stop_told(sys: &mut System, p: Pass, files: Files, form: &[u8], numbers: &[u64]) -> Pass {
+    tell(sys, files, form, numbers);
     stopped(p)
 }
 
 // A record of the block, or of a setting before it, could not be written to the pass log.
-pub fn not_recorded(p: Pass, files: Files, block: u64) -> Pass {
-    os::fail(b"resample: writing the pass log");
+pub fn not_recorded(sys: &mut System, p: Pass, files: Files, block: u64) -> Pass {
+    sys.fail(b"resample: writing the pass log");
     stop_told(
+        sys,
         p,
         files,
         b"the pass log has the records of all blocks before block #; a part of a record may stand at its end\n",

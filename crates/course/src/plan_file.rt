@@ -2,6 +2,7 @@
 use crate::changes::{next_line, no_plan};
 use crate::pass::Plan;
 use options::say_start;
+use system::System;
 
 // The line read last, and the one before it.
 #[derive(Clone, Copy)]
@@ -11,16 +12,17 @@ struct Look {
     good: bool,
 }
 
-fn tell_line(form: &[u8], line: u64) {
-    say_start();
-    forms::write_form(libc::STDERR_FILENO, form, &[line]);
+fn tell_line(sys: &mut System, form: &[u8], line: u64) {
+    say_start(sys);
+    forms::write_form(sys, system::ERROR, form, &[line]);
 }
 
 // What is wrong with the line, if something is.
-fn judged(plan: Plan, last: u64) -> Look {
+fn judged(sys: &mut System, plan: Plan, last: u64) -> Look {
     let cursor = plan.cursor;
     if plan.kind == 4 {
         tell_line(
+            sys,
             b"line # of the plan is none of: at BLOCK RATIO, ramp BLOCK RATIO, mask BLOCK MASK\n",
             cursor.line,
         );
@@ -33,6 +35,7 @@ fn judged(plan: Plan, last: u64) -> Look {
     let rising = (plan.kind == 0) | (last <= plan.block);
     if !rising {
         tell_line(
+            sys,
             b"line # of the plan is for an earlier block than the line before it\n",
             cursor.line,
         );
@@ -44,9 +47,10 @@ fn judged(plan: Plan, last: u64) -> Look {
     }
 }
 
-fn look_on(fd: i32, bytes: &mut [u8], l: Look) -> Look {
+fn look_on(sys: &mut System, fd: i32, bytes: &mut [u8], l: Look) -> Look {
     let before = l.plan;
-    judged(next_line(fd, bytes, before), l.last)
+    let plan = next_line(sys, fd, bytes, before);
+    judged(sys, plan, l.last)
 }
 
 fn has_more(l: Look) -> bool {
@@ -55,8 +59,9 @@ fn has_more(l: Look) -> bool {
 }
 
 // Whether every line of the plan is one; it is then read again from its start.
-fn is_plan(fd: i32, bytes: &mut [u8]) -> bool {
+fn is_plan(sys: &mut System, fd: i32, bytes: &mut [u8]) -> bool {
     let mut l = look_on(
+        sys,
         fd,
         bytes,
         Look {
@@ -67,22 +72,22 @@ fn is_plan(fd: i32, bytes: &mut [u8]) -> bool {
     );
     let mut turns = u64::MAX;
     while turns > 0 && has_more(l) {
-        l = look_on(fd, bytes, l);
+        l = look_on(sys, fd, bytes, l);
         turns -= 1;
     }
     l.good
 }
 
 // Whether there is no plan, or a good one that stands at its start again.
-pub fn plan_holds(fd: i32, bytes: &mut [u8]) -> bool {
+pub fn plan_holds(sys: &mut System, fd: i32, bytes: &mut [u8]) -> bool {
     if fd < 0 {
         return true;
     }
-    if !is_plan(fd, bytes) {
+    if !is_plan(sys, fd, bytes) {
         return false;
     }
-    if libc::lseek(fd, 0, libc::SEEK_SET) != 0 {
-        os::fail(b"resample: the plan must be a file that can be read twice");
+    if !sys.rewind(fd) {
+        sys.fail(b"resample: the plan must be a file that can be read twice");
         return false;
     }
     true

@@ -2,44 +2,45 @@
 use crate::pass::{Pass, tell};
 use options::{Files, Options, say, say_start};
 use state::State;
+use system::System;
 
-fn write_side(log: i32, fixed_out: bool) -> bool {
+fn write_side(sys: &mut System, log: i32, fixed_out: bool) -> bool {
     if fixed_out {
-        forms::write_form(log, b" fixed out", &[])
+        forms::write_form(sys, log, b" fixed out", &[])
     } else {
-        forms::write_form(log, b" fixed in", &[])
+        forms::write_form(sys, log, b" fixed in", &[])
     }
 }
 
 // A degree's name, seven bytes long, by its points: 1, 2, 4, 6 or 8.
-fn write_degree(log: i32, points: u64) -> bool {
+fn write_degree(sys: &mut System, log: i32, points: u64) -> bool {
     let names = *b"nearestlinear cubic  quinticseptic ";
     if points > 8 {
         return false;
     }
     let at = 7 * (points as usize / 2);
-    forms::write_form(log, &names[at..at + 7], &[])
+    forms::write_form(sys, log, &names[at..at + 7], &[])
 }
 
 // What a pass resamples by: a polynomial's degree, or a sinc's blend.
-fn write_kind(log: i32, o: Options) -> bool {
+fn write_kind(sys: &mut System, log: i32, o: Options) -> bool {
     if o.has_sinc {
-        let name = forms::write_form(log, b"sinc ", &[]);
-        return name & options::write_blend(log, o.blend);
+        let name = forms::write_form(sys, log, b"sinc ", &[]);
+        return name & options::write_blend(sys, log, o.blend);
     }
-    let name = forms::write_form(log, b"degree ", &[]);
-    name & write_degree(log, o.points)
+    let name = forms::write_form(sys, log, b"degree ", &[]);
+    name & write_degree(sys, log, o.points)
 }
 
 // The head: the version, the words, and the record that they made.
-pub fn write_head(o: Options, files: Files, s: State, mask: u64) -> bool {
-    let version = options::write_version(files.log);
-    let name = forms::write_form(files.log, b"words ", &[]);
-    let words = options::write_words(files.log);
+pub fn write_head(sys: &mut System, o: Options, files: Files, s: State, mask: u64) -> bool {
+    let version = options::write_version(sys, files.log);
+    let name = forms::write_form(sys, files.log, b"words ", &[]);
+    let words = options::write_words(sys, files.log);
     let ratios = [text::bits_of(s.original), text::bits_of(s.m)];
-    let first = forms::write_form(files.log, b"\nratio $ m $\n", &ratios);
-    let kind = write_kind(files.log, o);
-    let side = write_side(files.log, o.fixed_out);
+    let first = forms::write_form(sys, files.log, b"\nratio $ m $\n", &ratios);
+    let kind = write_kind(sys, files.log, o);
+    let side = write_side(sys, files.log, o.fixed_out);
     let sizes = [
         o.points,
         s.chunk as u64,
@@ -48,6 +49,7 @@ pub fn write_head(o: Options, files: Files, s: State, mask: u64) -> bool {
         text::bits_of(s.index),
     ];
     let second = forms::write_form(
+        sys,
         files.log,
         b" points # chunk # channels # mask # start index $\n",
         &sizes,
@@ -56,7 +58,7 @@ pub fn write_head(o: Options, files: Files, s: State, mask: u64) -> bool {
 }
 
 // Where the output begins, what was cut of the blocks and what was fed behind the input.
-fn tell_cut(p: Pass, o: Options, files: Files) -> bool {
+fn tell_cut(sys: &mut System, p: Pass, o: Options, files: Files) -> bool {
     let c = p.counts;
     let zeros = if c.given < c.used {
         c.used - c.given
@@ -65,6 +67,7 @@ fn tell_cut(p: Pass, o: Options, files: Files) -> bool {
     };
     let cut = [zeros, c.before, c.behind];
     let first = tell(
+        sys,
         files,
         b"# frames of zeros behind the input; frames cut: # before the input, # behind it\n",
         &cut,
@@ -81,12 +84,14 @@ fn tell_cut(p: Pass, o: Options, files: Files) -> bool {
     ];
     let second = if o.has_sinc {
         tell(
+            sys,
             files,
             b"the first frame written stands at # input frames used before its block, the index $, and # frames and 1/# of one up to the sinc's middle\n",
             &start,
         )
     } else {
         tell(
+            sys,
             files,
             b"the first frame written stands at # input frames used before its block and the index $\n",
             &start,
@@ -100,7 +105,7 @@ fn float_of(n: u64) -> f64 {
 }
 
 // The totals, and the bound that is proved of them.
-fn tell_totals(p: Pass, files: Files) -> bool {
+fn tell_totals(sys: &mut System, p: Pass, files: Files) -> bool {
     let c = p.counts;
     let units = tally::bound(c);
     let bound = float_of(units) / 70368744177664.0;
@@ -113,6 +118,7 @@ fn tell_totals(p: Pass, files: Files) -> bool {
         text::bits_of(bound),
     ];
     tell(
+        sys,
         files,
         b"# frames in, # frames out, N # B #: the stored position is at most #/2^46 of a sample, which is $, from the exact one (proved)\n",
         &numbers,
@@ -120,7 +126,7 @@ fn tell_totals(p: Pass, files: Files) -> bool {
 }
 
 // A change of the words that no block has followed.
-fn tell_missed(k: usize, files: Files, blocks: u64, changes: &[u64]) -> bool {
+fn tell_missed(sys: &mut System, k: usize, files: Files, blocks: u64, changes: &[u64]) -> bool {
     if k >= 16 {
         return true;
     }
@@ -132,6 +138,7 @@ fn tell_missed(k: usize, files: Files, blocks: u64, changes: &[u64]) -> bool {
         return true;
     }
     tell(
+        sys,
         files,
         b"the ratio change before block # was never reached: the pass has # blocks\n",
         &[block, blocks],
@@ -139,18 +146,24 @@ fn tell_missed(k: usize, files: Files, blocks: u64, changes: &[u64]) -> bool {
     false
 }
 
-fn words_reached(files: Files, count: usize, blocks: u64, changes: &[u64]) -> bool {
+fn words_reached(
+    sys: &mut System,
+    files: Files,
+    count: usize,
+    blocks: u64,
+    changes: &[u64],
+) -> bool {
     let mut good = true;
     for k in 0..16 {
         if k < count {
-            good = tell_missed(k, files, blocks, changes) & good;
+            good = tell_missed(sys, k, files, blocks, changes) & good;
         }
     }
     good
 }
 
 // Whether every line of the plan was followed by a block.
-fn plan_reached(p: Pass, files: Files) -> bool {
+fn plan_reached(sys: &mut System, p: Pass, files: Files) -> bool {
     let c = p.counts;
     let plan = p.plan;
     let cursor = plan.cursor;
@@ -158,6 +171,7 @@ fn plan_reached(p: Pass, files: Files) -> bool {
         return true;
     }
     tell(
+        sys,
         files,
         b"the plan was not followed to its end: the pass has # blocks, and line # of the plan was not reached\n",
         &[c.blocks, cursor.line],
@@ -166,10 +180,10 @@ fn plan_reached(p: Pass, files: Files) -> bool {
 }
 
 // Closes a file of ours, and says whether that went well: what was written last may be lost only now.
-fn closed(fd: i32, what: &[u8]) -> bool {
+fn closed(sys: &mut System, fd: i32, what: &[u8]) -> bool {
     if fd > 2 {
-        if libc::close(fd) < 0 {
-            os::fail(what);
+        if sys.close(fd) < 0 {
+            sys.fail(what);
             return false;
         }
     }
@@ -177,44 +191,45 @@ fn closed(fd: i32, what: &[u8]) -> bool {
 }
 
 // How the pass ended, with its frames.
-fn tell_end(p: Pass, good: bool) {
+fn tell_end(sys: &mut System, p: Pass, good: bool) {
     let c = p.counts;
     let numbers = [c.blocks, c.given, c.written];
-    say_start();
+    say_start(sys);
     if !p.whole {
-        say(b"stopped before its end: ");
+        say(sys, b"stopped before its end: ");
     } else if good {
-        say(b"done: ");
+        say(sys, b"done: ");
     } else {
-        say(b"done, but not all went well: ");
+        say(sys, b"done, but not all went well: ");
     }
     forms::write_form(
-        libc::STDERR_FILENO,
+        sys,
+        system::ERROR,
         b"# blocks, # frames in, # frames out\n",
         &numbers,
     );
 }
 
 // Whether every change was followed by a block; one that was not is told where the pass has come to its end.
-fn all_reached(p: Pass, files: Files, count: usize, changes: &[u64]) -> bool {
+fn all_reached(sys: &mut System, p: Pass, files: Files, count: usize, changes: &[u64]) -> bool {
     let c = p.counts;
     if !p.whole {
         return false;
     }
-    let words = words_reached(files, count, c.blocks, changes);
-    words & plan_reached(p, files)
+    let words = words_reached(sys, files, count, c.blocks, changes);
+    words & plan_reached(sys, p, files)
 }
 
 // What is told at the end, and whether all went well.
-pub fn ended_well(p: Pass, o: Options, files: Files, changes: &[u64]) -> bool {
-    let reached = all_reached(p, files, o.changes, changes);
-    let cut = tell_cut(p, o, files);
-    let totals = tell_totals(p, files);
-    let line = pass_line::tell_line(files.log, files.log_file, p.line, o.rate);
-    let output = closed(files.output, b"resample: closing the output");
-    let log = closed(files.log, b"resample: closing the log");
-    let passlog = closed(files.passlog, b"resample: closing the pass log");
+pub fn ended_well(sys: &mut System, p: Pass, o: Options, files: Files, changes: &[u64]) -> bool {
+    let reached = all_reached(sys, p, files, o.changes, changes);
+    let cut = tell_cut(sys, p, o, files);
+    let totals = tell_totals(sys, p, files);
+    let line = pass_line::tell_line(sys, files.log, files.log_file, p.line, o.rate);
+    let output = closed(sys, files.output, b"resample: closing the output");
+    let log = closed(sys, files.log, b"resample: closing the log");
+    let passlog = closed(sys, files.passlog, b"resample: closing the pass log");
     let good = p.good & reached & cut & totals & line & output & log & passlog;
-    tell_end(p, good);
+    tell_end(sys, p, good);
     good
 }

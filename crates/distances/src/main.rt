@@ -9,9 +9,13 @@ mod account;
 mod passes;
 mod report;
 
-fn main() {
+use system::System;
+
+fn main(rt: HostRuntime) {
+    let mut system = System::new(rt);
+    let sys = &mut system;
     let input = [0.0; 65536];
     let mut output = [0.0; 65536];
     let mut work = [0.0; 65552];
-    passes::all(&input, &mut output, &mut work);
+    passes::all(sys, &input, &mut output, &mut work);
 }

@@ -3,6 +3,7 @@ use crate::account::Account;
 use asynchro_fast::PolynomialDegree;
 use sizes::FixedAsync;
 use state::{Made, State};
+use system::System;
 
 // A ramp to the one ratio of the first pass.
 fn set_first(k: u64, a: Account) -> Account {
@@ -78,6 +79,7 @@ fn run_on(
 }
 
 fn started(
+    sys: &mut System,
     number: u64,
     s: State,
     blocks: u64,
@@ -88,7 +90,7 @@ fn started(
     let n = lent::work_length(s);
     let opened = crate::account::opened(s);
     let a = run_on(number, opened, blocks, input, output, work, n);
-    crate::report::print(number, a);
+    crate::report::print(sys, number, a);
 }
 
 // The worst input that a search has found: one block with a ramp.
@@ -134,16 +136,16 @@ fn blocks_of(number: u64) -> u64 {
     }
 }
 
-fn pass(number: u64, input: &[f64], output: &mut [f64], work: &mut [f64]) {
+fn pass(sys: &mut System, number: u64, input: &[f64], output: &mut [f64], work: &mut [f64]) {
     match made(number) {
-        Made::Ready(s) => started(number, s, blocks_of(number), input, output, work),
+        Made::Ready(s) => started(sys, number, s, blocks_of(number), input, output, work),
         Made::Refused(_) => {}
     }
 }
 
-pub fn all(input: &[f64], output: &mut [f64], work: &mut [f64]) {
-    pass(1, input, output, work);
-    pass(2, input, output, work);
-    pass(3, input, output, work);
-    pass(4, input, output, work);
+pub fn all(sys: &mut System, input: &[f64], output: &mut [f64], work: &mut [f64]) {
+    pass(sys, 1, input, output, work);
+    pass(sys, 2, input, output, work);
+    pass(sys, 3, input, output, work);
+    pass(sys, 4, input, output, work);
 }

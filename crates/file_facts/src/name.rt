@@ -1,7 +1,8 @@
 // A path as the system reads it, up to a 0.
-ghost use Rattle.libc.specs.Io.{Ended};
+ghost use Rattle.file_facts.specs.Ended.{Ended};
 
-use libc::PATH_MAX;
+// How many bytes a path has at most, the 0 behind it among them.
+pub const PATH_MAX: usize = 4096;
 
 const LAST: usize = PATH_MAX - 1;
 

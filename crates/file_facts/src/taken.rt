@@ -3,31 +3,19 @@ ghost use Rattle.std.specs.Prelude.{◌≡◌};
 ghost use Rattle.file_facts.specs.Told.{at_least_zero, told, unknown};
 
 use crate::Facts;
-use libc::types::{stat, timespec};
+use system::Record;
+
+// The bits of a mode that say what kind of file it is (0o170000).
+const KIND_BITS: u32 = 61440;
 
 // A record of zeros.
-pub fn blank() -> stat {
-    let never = timespec {
-        tv_sec: 0,
-        tv_nsec: 0,
-    };
-    let unused = [0i64; 3];
-    stat {
-        st_dev: 0,
-        st_ino: 0,
-        st_nlink: 0,
-        st_mode: 0,
-        st_uid: 0,
-        st_gid: 0,
-        __pad: 0,
-        st_rdev: 0,
-        st_size: 0,
-        st_blksize: 0,
-        st_blocks: 0,
-        st_atim: never,
-        st_mtim: never,
-        st_ctim: never,
-        __unused: unused,
+pub fn blank() -> Record {
+    Record {
+        device: 0,
+        inode: 0,
+        mode: 0,
+        special: 0,
+        size: 0,
     }
 }
 
@@ -45,16 +33,16 @@ pub fn nothing() -> Facts
 }
 
 // What the record tells, where the call that filled it succeeded.
-pub fn taken(status: i32, about: stat) -> Facts
+pub fn taken(status: i32, about: Record) -> Facts
     ensures { result ≡ told status about }
 {
     if status == 0 {
         Facts {
             known: true,
-            device: about.st_dev,
-            inode: about.st_ino,
-            kind: about.st_mode & libc::S_IFMT,
-            size: at_least_zero(about.st_size),
+            device: about.device,
+            inode: about.inode,
+            kind: about.mode & KIND_BITS,
+            size: at_least_zero(about.size),
         }
     } else {
         nothing()

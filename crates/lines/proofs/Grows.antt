@@ -5,12 +5,12 @@ use mathlib.Core.Path.{◌≡◌, refl, sym, ap, ◌∙◌, subst}
 use Prim.Native.Nat.{ℕ, ◌+◌, ◌*◌, ◌-◌, ◌/◌, ◌%◌, ◌^◌, ◌<◌, ◌≤◌}
 use native.Mathlib.Omega.{arith}
 use native.Mathlib.Nat.{mod-eq_of_lt, mul_assoc, mul_comm, mul_left_comm, mul-one, mul-le-mul, mul-le-mul_right, lt_of_lt_of_le}
-use lib.Dec.{ltb, leb, lit≤}
+use lib.Dec.{leb, lit≤}
 use lib.Ieee.{Float, eq}
 use lib.Pow.{pow_mono, shl_exact, shl_lt}
 use borrow.Author.Tests.{ltb-false, le-ltb, lt-ltb, leb-true}
 use Rattle.exact.specs.Doubles.{zero_f}
-use Rattle.exact.specs.Whole.{Whole, ◌⊕◌, ◌⊙◌, Same}
+use Rattle.exact.specs.Whole.{Whole, ◌⊕◌, ◌⊙◌}
 use Rattle.exact.specs.Running.{tri}
 use Rattle.exact.proofs.Running.{tri_is}
 use Rattle.big.specs.declared.Big.{Big}
@@ -21,7 +21,7 @@ use Rattle.positions.specs.declared.double.FromDouble.{FromDouble}
 use Rattle.positions.specs.declared.double.FromDouble.TheVariants.{Units, Beyond, Other}
 use Rattle.positions.specs.Positions.{one, plain, held_in, inside, is_multiple, position_of, HeldIf, IsHeld, IsDouble}
 use Rattle.positions.specs.Fields.{TimesOf}
-use Rattle.positions.proofs.Holds.{two_halves, same_plain, inside_same, plain_same, inside_over}
+use Rattle.positions.proofs.Holds.{two_halves, same_plain, inside_same, inside_over}
 use Rattle.positions.proofs.Products.{held_same, half_is}
 use Rattle.lines.specs.declared.End.{End}
 use Rattle.lines.specs.declared.End.TheVariants as end
@@ -29,8 +29,8 @@ use Rattle.lines.specs.declared.Line.{Line}
 use Rattle.lines.specs.declared.Lined.{Lined}
 use Rattle.lines.specs.declared.Lined.TheVariants as lined
 use Rattle.lines.specs.declared.Factors.{Factors}
-use Rattle.lines.specs.Lines.{Figures, Going, on, ended, check, opened, started, is_count, figures_of, going_of, grown, move_of, allowed, block_fits, figures_fit, with_block}
-use Rattle.lines.specs.Steps.{IsPosition, OtherBy, IsTriangle, MovedBy, StoredBy, ramp_by, allowed_by, AfterBy, CountedBy, PlacedBy, GrownBy}
+use Rattle.lines.specs.Lines.{Going, on, ended, check, opened, started, is_count, figures_of, going_of, grown, move_of, block_fits, figures_fit, with_block}
+use Rattle.lines.specs.Steps.{OtherBy, IsTriangle, MovedBy, StoredBy, ramp_by, allowed_by, AfterBy, CountedBy, PlacedBy, GrownBy}
 
 -- ---- tests joined
 and-false : (b : Bool) → (b && false) ≡ false

@@ -1,6 +1,6 @@
 -- Where a false record comes from. Assumes nothing.
 use mathlib.Core.Bool.{Bool, true, false, ◌||◌, true≢false}
-use mathlib.Core.List.{List, [], ◌∷◌, ◌++◌}
+use mathlib.Core.List.{List, [], ◌∷◌}
 use mathlib.Core.Logic.{◌⊎◌, inl, inr}
 use mathlib.Core.Path.{◌≡◌, refl, sym, ap, ◌∙◌, subst}
 use Prim.Native.Nat.{ℕ, zero, suc, ◌+◌, ◌≤◌, ◌<◌}
@@ -9,10 +9,9 @@ use borrow.Author.Tests.{ltb-true, ltb-false, eqb-true}
 use lib.Dec.{eqb, ltb}
 use lib.ListN.{length, drop, length-append, length-drop}
 use Rattle.log_records.specs.Records.{agrees, record_length}
-use Rattle.log_salvage.specs.declared.Stretch.{Stretch}
-use Rattle.log_salvage.specs.declared.Stretch.TheVariants.{Skipped, Kept, End}
+use Rattle.log_salvage.specs.declared.Stretch.TheVariants.{Kept}
 use Rattle.log_claims.specs.Listing.{listing}
-use Rattle.log_claims.specs.Claims.{Listed, Cover, IsKept, Walk, Good}
+use Rattle.log_claims.specs.Claims.{Listed, Cover, IsKept}
 use Rattle.log_claims.specs.Pieces.{Piece, intact, other, bytes_of, Pieces, intact_at, IsFalse, InOther, InCovered, GoesBack}
 use Rattle.log_claims.proofs.Walks.{listing_walks}
 use Rattle.log_claims.proofs.Choice.{listed_is, kept_or, false_within, past_part, is_kept_good}

@@ -1,5 +1,5 @@
 -- Where a false record can come from: a damaged log as what is intact of it and what is not. Definitions only.
-use Rattle.std.specs.Prelude.{Bool, true, false, ◌||◌, List, [], ◌∷◌, ◌++◌, ◌⊎◌, ◌≡◌, ℕ, ◌+◌, ◌≤◌, ◌<◌, eqb, length, drop}
+use Rattle.std.specs.Prelude.{Bool, true, false, ◌||◌, List, [], ◌∷◌, ◌++◌, ◌≡◌, ℕ, ◌+◌, ◌≤◌, ◌<◌, eqb, length, drop}
 use Rattle.log_records.specs.Records.{record_length}
 use Rattle.log_salvage.specs.declared.Stretch.TheVariants.{Kept}
 use Rattle.log_claims.specs.Listing.{listing}

@@ -6,6 +6,7 @@ use crate::names::LOG;
 use crate::options::{Options, Place};
 use crate::slots::has;
 use file_facts::{Facts, is_same};
+use system::System;
 
 const OUTPUT_NAMES: usize = 1;
 
@@ -25,8 +26,9 @@ const IS_LOG: usize = 10;
 
 const IS_STATUS: usize = 11;
 
-fn say_role(k: usize) {
+fn say_role(sys: &mut System, k: usize) {
     say_nth(
+        sys,
         b"--out names,standard output is,--log names,the log's stream is, the input, the plan, the output, the table,--passlog names, the log, the status file,",
         44,
         k,
@@ -34,12 +36,12 @@ fn say_role(k: usize) {
 }
 
 // Says of two that are the same which they are; whether they are.
-fn is_told(same: bool, who: usize, what: usize) -> bool {
+fn is_told(sys: &mut System, same: bool, who: usize, what: usize) -> bool {
     if same {
-        say_start();
-        say_role(who);
-        say_role(what);
-        say(b": nothing was written\n");
+        say_start(sys);
+        say_role(sys, who);
+        say_role(sys, what);
+        say(sys, b": nothing was written\n");
     }
     same
 }
@@ -55,72 +57,86 @@ fn role_of(p: Place, names: usize) -> usize {
 // The stream that the log goes to where it has no file.
 pub fn log_stream(o: Options) -> i32 {
     if has(o.seen, LOG) {
-        libc::STDOUT_FILENO
+        system::OUTPUT
     } else {
-        libc::STDERR_FILENO
+        system::ERROR
     }
 }
 
 // Whether the pass log is the output, the log or the file for the status; it is told.
-pub fn is_passlog_taken(o: Options, passlog: Facts) -> bool {
-    let output = facts_in(o.output, libc::STDOUT_FILENO);
-    let log = facts_in(o.log, log_stream(o));
-    let status = facts_in(o.status, -1);
+pub fn is_passlog_taken(sys: &mut System, o: Options, passlog: Facts) -> bool {
+    let output = facts_in(sys, o.output, system::OUTPUT);
+    let log = facts_in(sys, o.log, log_stream(o));
+    let status = facts_in(sys, o.status, -1);
     let a = is_told(
+        sys,
         file_facts::same_file(passlog, output),
         PASSLOG_NAMES,
         IS_OUTPUT,
     );
-    let b = is_told(file_facts::same_file(passlog, log), PASSLOG_NAMES, IS_LOG);
-    let c = is_told(is_same(passlog, status), PASSLOG_NAMES, IS_STATUS);
+    let b = is_told(
+        sys,
+        file_facts::same_file(passlog, log),
+        PASSLOG_NAMES,
+        IS_LOG,
+    );
+    let c = is_told(sys, is_same(passlog, status), PASSLOG_NAMES, IS_STATUS);
     a | b | c
 }
 
 // Whether the pass log is another file of the pass.
-fn has_passlog_clash(o: Options, input: Facts, plan: Facts, table: Facts) -> bool {
-    let passlog = facts_in(o.passlog, -1);
-    let a = is_told(is_same(passlog, input), PASSLOG_NAMES, IS_INPUT);
-    let b = is_told(is_same(passlog, plan), PASSLOG_NAMES, IS_PLAN);
-    let c = is_told(is_same(passlog, table), PASSLOG_NAMES, IS_TABLE);
-    let d = is_passlog_taken(o, passlog);
+fn has_passlog_clash(
+    sys: &mut System,
+    o: Options,
+    input: Facts,
+    plan: Facts,
+    table: Facts,
+) -> bool {
+    let passlog = facts_in(sys, o.passlog, -1);
+    let a = is_told(sys, is_same(passlog, input), PASSLOG_NAMES, IS_INPUT);
+    let b = is_told(sys, is_same(passlog, plan), PASSLOG_NAMES, IS_PLAN);
+    let c = is_told(sys, is_same(passlog, table), PASSLOG_NAMES, IS_TABLE);
+    let d = is_passlog_taken(sys, o, passlog);
     a | b | c | d
 }
 
 // Whether the output, the log or the pass log is another file of the pass, before any is opened; it is told.
-pub fn has_clash(o: Options, input: Facts, plan: Facts, table: Facts) -> bool {
-    let output = facts_in(o.output, libc::STDOUT_FILENO);
-    let log = facts_in(o.log, log_stream(o));
+pub fn has_clash(sys: &mut System, o: Options, input: Facts, plan: Facts, table: Facts) -> bool {
+    let output = facts_in(sys, o.output, system::OUTPUT);
+    let log = facts_in(sys, o.log, log_stream(o));
     let by_output = role_of(o.output, OUTPUT_NAMES);
     let by_log = role_of(o.log, LOG_NAMES);
-    let a = is_told(is_same(output, input), by_output, IS_INPUT);
-    let b = is_told(is_same(output, plan), by_output, IS_PLAN);
-    let c = is_told(is_same(log, input), by_log, IS_INPUT);
-    let d = is_told(is_same(log, plan), by_log, IS_PLAN);
-    let e = is_told(file_facts::same_file(log, output), by_log, IS_OUTPUT);
-    let f = is_told(is_same(output, table), by_output, IS_TABLE);
-    let g = is_told(is_same(log, table), by_log, IS_TABLE);
-    let h = has_passlog_clash(o, input, plan, table);
+    let a = is_told(sys, is_same(output, input), by_output, IS_INPUT);
+    let b = is_told(sys, is_same(output, plan), by_output, IS_PLAN);
+    let c = is_told(sys, is_same(log, input), by_log, IS_INPUT);
+    let d = is_told(sys, is_same(log, plan), by_log, IS_PLAN);
+    let e = is_told(sys, file_facts::same_file(log, output), by_log, IS_OUTPUT);
+    let f = is_told(sys, is_same(output, table), by_output, IS_TABLE);
+    let g = is_told(sys, is_same(log, table), by_log, IS_TABLE);
+    let h = has_passlog_clash(sys, o, input, plan, table);
     a | b | c | d | e | f | g | h
 }
 
 // Whether the log, which is open, is the output: two names of a file that was not there before.
-pub fn is_output(o: Options, log: i32) -> bool {
-    let output = facts_in(o.output, libc::STDOUT_FILENO);
+pub fn is_output(sys: &mut System, o: Options, log: i32) -> bool {
+    let output = facts_in(sys, o.output, system::OUTPUT);
+    let facts = file_facts::facts_of(sys, log);
     is_told(
-        file_facts::same_file(file_facts::facts_of(log), output),
+        sys,
+        file_facts::same_file(facts, output),
         role_of(o.log, LOG_NAMES),
         IS_OUTPUT,
     )
 }
 
 // Whether the file for the status is another file of the pass.
-pub fn is_status_taken(o: Options) -> bool {
-    let status = facts_in(o.status, -1);
-    let a = is_same(status, facts_in(o.input, libc::STDIN_FILENO));
-    let b = is_same(status, facts_in(o.plan, -1));
-    let c = is_same(status, facts_in(o.output, libc::STDOUT_FILENO));
-    let d = is_same(status, facts_in(o.log, log_stream(o)));
-    let e = is_same(status, facts_in(o.table, -1));
-    let f = is_same(status, facts_in(o.passlog, -1));
+pub fn is_status_taken(sys: &mut System, o: Options) -> bool {
+    let status = facts_in(sys, o.status, -1);
+    let a = is_same(status, facts_in(sys, o.input, system::INPUT));
+    let b = is_same(status, facts_in(sys, o.plan, -1));
+    let c = is_same(status, facts_in(sys, o.output, system::OUTPUT));
+    let d = is_same(status, facts_in(sys, o.log, log_stream(o)));
+    let e = is_same(status, facts_in(sys, o.table, -1));
+    let f = is_same(status, facts_in(sys, o.passlog, -1));
     a | b | c | d | e | f
 }

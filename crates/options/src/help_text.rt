@@ -1,15 +1,17 @@
 // What `--help` and `--version` print: one text each.
 // Whether each was written is the answer.
-pub fn write_version(fd: i32) -> bool {
-    io::write_all(
+use system::System;
+
+pub fn write_version(sys: &mut System, fd: i32) -> bool {
+    sys.write_all(
         fd,
         b"resample 1.1, the asynchronous resampler of rubato 5.0.1\n",
     )
 }
 
-pub fn help() -> bool {
-    io::write_all(
-        libc::STDOUT_FILENO,
+pub fn help(sys: &mut System) -> bool {
+    sys.write_all(
+        system::OUTPUT,
         b"resample: samples in, samples out, at another rate.
 
   resample --ratio R [WORDS]        R is output frames for each input frame

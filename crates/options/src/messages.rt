@@ -2,43 +2,45 @@
 use crate::lists::put_nth;
 use error::Refusal;
 use printer::bytes_of;
+use system::System;
 
-pub fn say(text: &[u8]) {
-    io::write_all(libc::STDERR_FILENO, text);
+pub fn say(sys: &mut System, text: &[u8]) {
+    sys.write_all(system::ERROR, text);
 }
 
-pub fn say_number(n: u64) {
-    io::print_decimal(libc::STDERR_FILENO, n);
+pub fn say_number(sys: &mut System, n: u64) {
+    sys.print_decimal(system::ERROR, n);
 }
 
 // A float as a decimal and by its bits.
-pub fn say_value(x: f64) {
+pub fn say_value(sys: &mut System, x: f64) {
     let mut line = [0u8; 128];
     let n = values::put_value(&mut line, 0, x);
     let k = bytes_of(&line, n);
-    say(&line[..k]);
+    say(sys, &line[..k]);
 }
 
 // What stands before every message.
-pub fn say_start() {
-    say(b"resample: ");
+pub fn say_start(sys: &mut System) {
+    say(sys, b"resample: ");
 }
 
 // The text n of a list; whether it was written.
-pub fn write_nth(fd: i32, list: &[u8], mark: u8, n: usize) -> bool {
+pub fn write_nth(sys: &mut System, fd: i32, list: &[u8], mark: u8, n: usize) -> bool {
     let mut line = [0u8; 256];
     let at = put_nth(&mut line, list, mark, n);
     let k = bytes_of(&line, at);
-    io::write_all(fd, &line[..k])
+    sys.write_all(fd, &line[..k])
 }
 
-pub fn say_nth(list: &[u8], mark: u8, n: usize) {
-    write_nth(libc::STDERR_FILENO, list, mark, n);
+pub fn say_nth(sys: &mut System, list: &[u8], mark: u8, n: usize) {
+    write_nth(sys, system::ERROR, list, mark, n);
 }
 
 // What to do about a refusal, by its number.
-fn say_hint(number: usize) {
+fn say_hint(sys: &mut System, number: usize) {
     say_nth(
+        sys,
         b": the ratio must be finite and above 0
 : --m must be finite and 1 or more
 : --chunk must be 1 or more
@@ -56,31 +58,32 @@ fn say_hint(number: usize) {
     );
 }
 
-fn say_float(values: [f64; 3], count: usize, k: usize) {
+fn say_float(sys: &mut System, values: [f64; 3], count: usize, k: usize) {
     if k < 3 {
         if k < count {
-            say(b" ");
-            say_value(values[k]);
+            say(sys, b" ");
+            say_value(sys, values[k]);
         }
     }
 }
 
 // A refusal with its number, its name, the floats that it carries and what to do.
-pub fn say_refused(r: Refusal) {
+pub fn say_refused(sys: &mut System, r: Refusal) {
     let number = error::number(r);
     let carried = error::values(r);
     let values = carried.values;
-    say(b"refused ");
-    say_number(number);
-    say(b" ");
+    say(sys, b"refused ");
+    say_number(sys, number);
+    say(sys, b" ");
     say_nth(
+        sys,
         b"InvalidRatio InvalidRelativeRatio InvalidChunkSize RatioOutOfBounds RatioBeyondPort SizeTooLarge Channels BufferShape Reach StateRecord Argument ",
         32,
         number as usize,
     );
-    say_float(values, carried.count, 0);
-    say_float(values, carried.count, 1);
-    say_float(values, carried.count, 2);
-    say_hint(number as usize);
-    say(b"\n");
+    say_float(sys, values, carried.count, 0);
+    say_float(sys, values, carried.count, 1);
+    say_float(sys, values, carried.count, 2);
+    say_hint(sys, number as usize);
+    say(sys, b"\n");
 }

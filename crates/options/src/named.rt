@@ -2,6 +2,7 @@
 use crate::messages::{say, say_start};
 use crate::options::Place;
 use file_facts::Facts;
+use system::System;
 
 #[derive(Clone, Copy)]
 pub enum Act {
@@ -18,38 +19,42 @@ pub struct Opened {
 }
 
 // Says so where a file could not be opened.
-fn told(fd: i32, name: &[u8]) -> Opened {
+fn told(sys: &mut System, fd: i32, name: &[u8]) -> Opened {
     if fd < 0 {
-        say_start();
-        say(b"cannot open ");
-        os::fail(name);
+        say_start(sys);
+        say(sys, b"cannot open ");
+        sys.fail(name);
     }
     Opened { fd, made: false }
 }
 
-fn made(name: &[u8]) -> Opened {
-    let fd = os::create(name);
+fn made(sys: &mut System, name: &[u8]) -> Opened {
+    let fd = sys.create(name);
     if fd >= 0 {
         return Opened { fd, made: true };
     }
-    told(os::open_overwrite(name), name)
+    let fd = sys.open_overwrite(name);
+    told(sys, fd, name)
 }
 
-fn act_from(act: Act, word: &[u8], from: usize) -> Opened {
+fn act_from(sys: &mut System, act: Act, word: &[u8], from: usize) -> Opened {
     let start = printer::bytes_of(word, from);
     let name = &word[start..];
     match act {
-        Act::Read => told(os::open_read(name), name),
-        Act::Write => made(name),
+        Act::Read => {
+            let fd = sys.open_read(name);
+            told(sys, fd, name)
+        }
+        Act::Write => made(sys, name),
         Act::Remove => Opened {
-            fd: os::unlink(name),
+            fd: sys.unlink(name),
             made: false,
         },
     }
 }
 
 // Opens the file for reading or writing, or removes it; `usual` where none is named.
-pub fn act_at(act: Act, p: Place, usual: i32) -> Opened {
+pub fn act_at(sys: &mut System, act: Act, p: Place, usual: i32) -> Opened {
     if p.at == 0 {
         return Opened {
             fd: usual,
@@ -57,17 +62,17 @@ pub fn act_at(act: Act, p: Place, usual: i32) -> Opened {
         };
     }
     let mut word = io::buffer();
-    let n = os::arg(p.at, &mut word);
-    act_from(act, &word[..n], p.from)
+    let n = sys.arg(p.at, &mut word);
+    act_from(sys, act, &word[..n], p.from)
 }
 
 // What the system tells of the file, or of the descriptor `usual` where none is named.
-pub fn facts_in(p: Place, usual: i32) -> Facts {
+pub fn facts_in(sys: &mut System, p: Place, usual: i32) -> Facts {
     if p.at == 0 {
-        return file_facts::facts_of(usual);
+        return file_facts::facts_of(sys, usual);
     }
     let mut word = io::buffer();
-    let n = os::arg(p.at, &mut word);
+    let n = sys.arg(p.at, &mut word);
     let start = printer::bytes_of(&word[..n], p.from);
-    file_facts::facts_at(&word[start..n])
+    file_facts::facts_at(sys, &word[start..n])
 }

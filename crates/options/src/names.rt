@@ -2,6 +2,7 @@
 // stand together: first those with a number behind them, then counts, choices, files, two or three words, none.
 use crate::lists::number_in;
 use crate::messages::{say, say_nth, say_start};
+use system::System;
 
 pub const RATIO: usize = 1;
 
@@ -116,8 +117,9 @@ pub fn number_of(word: &[u8]) -> usize {
     number_in(&NAMES, 32, word)
 }
 
-fn say_complaint(line: usize) {
+fn say_complaint(sys: &mut System, line: usize) {
     say_nth(
+        sys,
         b" takes a decimal of up to 19 digits (1.25), a quotient of two whole numbers of up to 19 digits (160/147) or 16 hex digits of bits (x3ff4000000000000), and not `
  takes a whole number below 2^64, and not `
  takes nearest, linear, cubic, quintic or septic, and not `
@@ -148,20 +150,20 @@ a word is longer than 4096 bytes
 }
 
 // A name and what is wrong with it; the name 0 is none.
-fn start(name: usize, line: usize) {
-    say_start();
-    say_nth(&NAMES, 32, name);
-    say_complaint(line);
+fn start(sys: &mut System, name: usize, line: usize) {
+    say_start(sys);
+    say_nth(sys, &NAMES, 32, name);
+    say_complaint(sys, line);
 }
 
-pub fn complain(name: usize, line: usize) {
-    start(name, line);
-    say(b"\n");
+pub fn complain(sys: &mut System, name: usize, line: usize) {
+    start(sys, name, line);
+    say(sys, b"\n");
 }
 
 // The same, of a word, before which the line has the opening mark.
-pub fn complain_of(name: usize, line: usize, word: &[u8]) {
-    start(name, line);
-    say(word);
-    say(b"'\n");
+pub fn complain_of(sys: &mut System, name: usize, line: usize, word: &[u8]) {
+    start(sys, name, line);
+    say(sys, word);
+    say(sys, b"'\n");
 }

@@ -6,6 +6,7 @@ use crate::names::{
     complain, complain_of,
 };
 use decimals::Number;
+use system::System;
 use text::Parsed;
 
 // What was read so far: the bit of each name that was given, the place of the next word, and how many
@@ -33,8 +34,8 @@ pub fn stopped(r: Reading) -> Reading {
 }
 
 // The word behind a name is no good.
-fn bad(r: Reading, name: usize, line: usize, word: &[u8]) -> Reading {
-    complain_of(name, line, word);
+fn bad(sys: &mut System, r: Reading, name: usize, line: usize, word: &[u8]) -> Reading {
+    complain_of(sys, name, line, word);
     stopped(r)
 }
 
@@ -46,26 +47,33 @@ fn got(r: Reading, name: usize, first: u64, second: u64) -> Reading {
     s
 }
 
-fn with_number(r: Reading, name: usize, word: &[u8]) -> Reading {
+fn with_number(sys: &mut System, r: Reading, name: usize, word: &[u8]) -> Reading {
     let Number::Value(x) = decimals::number_of(word) else {
-        return bad(r, name, BAD_NUMBER, word);
+        return bad(sys, r, name, BAD_NUMBER, word);
     };
     got(r, name, text::bits_of(x), 0)
 }
 
-pub fn with_count(r: Reading, name: usize, word: &[u8]) -> Reading {
+pub fn with_count(sys: &mut System, r: Reading, name: usize, word: &[u8]) -> Reading {
     let Parsed::Number(n) = text::decimal_of(word) else {
-        return bad(r, name, BAD_COUNT, word);
+        return bad(sys, r, name, BAD_COUNT, word);
     };
     got(r, name, n, 0)
 }
 
 // The number of a choice, 0 for none; `line` is the complaint where it is none.
-fn with_choice(r: Reading, name: usize, n: usize, line: usize, word: &[u8]) -> Reading {
+fn with_choice(
+    sys: &mut System,
+    r: Reading,
+    name: usize,
+    n: usize,
+    line: usize,
+    word: &[u8],
+) -> Reading {
     if n > 0 {
         return got(r, name, n as u64, 0);
     }
-    bad(r, name, line, word)
+    bad(sys, r, name, line, word)
 }
 
 fn is_dash(word: &[u8]) -> bool {
@@ -77,37 +85,51 @@ fn is_dash(word: &[u8]) -> bool {
 
 // A file's name, which begins at `from` in the word at the place `at`. `-` is a standard stream, and
 // leaves the place 0; the plan, the table, the pass log and the status have none.
-fn with_file(r: Reading, name: usize, at: usize, from: usize, word: &[u8]) -> Reading {
+fn with_file(
+    sys: &mut System,
+    r: Reading,
+    name: usize,
+    at: usize,
+    from: usize,
+    word: &[u8],
+) -> Reading {
     if !is_dash(word) {
         return got(r, name, at as u64, from as u64);
     }
     if name > LOG {
-        return bad(r, name, BAD_FILE, word);
+        return bad(sys, r, name, BAD_FILE, word);
     }
     got(r, name, 0, 0)
 }
 
 // A name with one word behind it.
-pub fn with_value(r: Reading, name: usize, at: usize, from: usize, word: &[u8]) -> Reading {
+pub fn with_value(
+    sys: &mut System,
+    r: Reading,
+    name: usize,
+    at: usize,
+    from: usize,
+    word: &[u8],
+) -> Reading {
     if name <= CUTOFF {
-        return with_number(r, name, word);
+        return with_number(sys, r, name, word);
     }
     if name <= TONES {
-        return with_count(r, name, word);
+        return with_count(sys, r, name, word);
     }
     if name == DEGREE {
         let n = number_in(b"nearest linear cubic quintic septic ", 32, word);
-        return with_choice(r, name, n, BAD_DEGREE, word);
+        return with_choice(sys, r, name, n, BAD_DEGREE, word);
     }
     if name == FIXED {
         let n = number_in(b"in out ", 32, word);
-        return with_choice(r, name, n, BAD_SIDE, word);
+        return with_choice(sys, r, name, n, BAD_SIDE, word);
     }
     if name == WINDOW {
         let n = number_in(&WINDOWS, 32, word);
-        return with_choice(r, name, n, BAD_WINDOW, word);
+        return with_choice(sys, r, name, n, BAD_WINDOW, word);
     }
-    with_file(r, name, at, from, word)
+    with_file(sys, r, name, at, from, word)
 }
 
 // A rate, 0 where it is no whole number.
@@ -119,25 +141,25 @@ fn rate_of(word: &[u8]) -> u64 {
 }
 
 // `--rates IN OUT`: the ratio, and the input's rate beside it.
-fn with_rates(r: Reading, input: &[u8], out: &[u8]) -> Reading {
+fn with_rates(sys: &mut System, r: Reading, input: &[u8], out: &[u8]) -> Reading {
     let Number::Value(x) = decimals::quotient_of(out, input) else {
-        complain(RATES, BAD_RATES);
+        complain(sys, RATES, BAD_RATES);
         return stopped(r);
     };
     got(r, RATIO, text::bits_of(x), rate_of(input))
 }
 
 // `--at B R` and `--ramp B R`: one change more, if there is room for it.
-fn with_change(r: Reading, name: usize, first: &[u8], second: &[u8]) -> Reading {
+fn with_change(sys: &mut System, r: Reading, name: usize, first: &[u8], second: &[u8]) -> Reading {
     let Parsed::Number(block) = text::decimal_of(first) else {
-        return bad(r, name, BAD_COUNT, first);
+        return bad(sys, r, name, BAD_COUNT, first);
     };
     let Number::Value(ratio) = decimals::number_of(second) else {
-        return bad(r, name, BAD_NUMBER, second);
+        return bad(sys, r, name, BAD_NUMBER, second);
     };
     let k = r.changes;
     if k >= 16 {
-        complain(name, TOO_MANY);
+        complain(sys, name, TOO_MANY);
         return stopped(r);
     }
     let mut s = got(r, name, block, text::bits_of(ratio));
@@ -146,12 +168,12 @@ fn with_change(r: Reading, name: usize, first: &[u8], second: &[u8]) -> Reading 
 }
 
 // FACTOR and BLEND of `--sinc`, whose points have been read.
-fn with_sinc(r: Reading, factor: &[u8], blend: &[u8]) -> Reading {
+fn with_sinc(sys: &mut System, r: Reading, factor: &[u8], blend: &[u8]) -> Reading {
     let Parsed::Number(n) = text::decimal_of(factor) else {
-        return bad(r, SINC, BAD_COUNT, factor);
+        return bad(sys, r, SINC, BAD_COUNT, factor);
     };
     let k = number_in(&BLENDS, 32, blend);
-    let mut s = with_choice(r, SINC, k, BAD_BLEND, blend);
+    let mut s = with_choice(sys, r, SINC, k, BAD_BLEND, blend);
     s.first = r.first;
     s.second = n;
     s.third = k as u64;
@@ -159,12 +181,12 @@ fn with_sinc(r: Reading, factor: &[u8], blend: &[u8]) -> Reading {
 }
 
 // A name with two words behind it, or behind its first one.
-pub fn with_two(r: Reading, name: usize, first: &[u8], second: &[u8]) -> Reading {
+pub fn with_two(sys: &mut System, r: Reading, name: usize, first: &[u8], second: &[u8]) -> Reading {
     if name < SINC {
-        return with_rates(r, first, second);
+        return with_rates(sys, r, first, second);
     }
     if name < AT {
-        return with_sinc(r, first, second);
+        return with_sinc(sys, r, first, second);
     }
-    with_change(r, name, first, second)
+    with_change(sys, r, name, first, second)
 }

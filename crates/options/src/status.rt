@@ -2,18 +2,19 @@
 use crate::clashes::is_status_taken;
 use crate::named::{Act, act_at};
 use crate::options::Options;
+use system::System;
 
 // Writes the status and a line feed into the file that --status names, if one is named and it is no
 // file of the pass.
-pub fn write_status(o: Options, status: u64) {
+pub fn write_status(sys: &mut System, o: Options, status: u64) {
     let place = o.status;
     if place.at == 0 {
         return;
     }
-    programs::fill_low();
-    if is_status_taken(o) {
+    programs::fill_low(sys);
+    if is_status_taken(sys, o) {
         return;
     }
-    let opened = act_at(Act::Write, place, -1);
-    programs::put_status(opened.fd, status);
+    let opened = act_at(sys, Act::Write, place, -1);
+    programs::put_status(sys, opened.fd, status);
 }

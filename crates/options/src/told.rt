@@ -3,6 +3,7 @@ use crate::messages::write_nth;
 use crate::names::{BLENDS, STATUS, WINDOWS, number_of};
 use crate::options::Place;
 use printer::{bytes_of, put_byte};
+use system::System;
 
 // Whether the next word is left out, how many spaces stand before it, and whether all was written.
 #[derive(Clone, Copy)]
@@ -30,15 +31,15 @@ fn put_plain(line: &mut [u8], at: usize, word: &[u8]) -> usize {
 }
 
 // The word, with a space before it where one stands there.
-fn write_word(fd: i32, space: usize, word: &[u8]) -> bool {
+fn write_word(sys: &mut System, fd: i32, space: usize, word: &[u8]) -> bool {
     let mut line = [32u8; 4100];
     let n = put_plain(&mut line, space, word);
     let k = bytes_of(&line, n);
-    io::write_all(fd, &line[..k])
+    sys.write_all(fd, &line[..k])
 }
 
 // A word: --status is left out, with its value.
-fn tell_word(fd: i32, t: Telling, word: &[u8]) -> Telling {
+fn tell_word(sys: &mut System, fd: i32, t: Telling, word: &[u8]) -> Telling {
     let n = word.len();
     let end = bytes_of(word, scan::find(word, 0, n, 61));
     if number_of(&word[..end]) == STATUS {
@@ -51,11 +52,11 @@ fn tell_word(fd: i32, t: Telling, word: &[u8]) -> Telling {
     Telling {
         skip: false,
         space: 1,
-        good: t.good & write_word(fd, t.space, word),
+        good: t.good & write_word(sys, fd, t.space, word),
     }
 }
 
-fn tell_next(fd: i32, t: Telling, at: usize) -> Telling {
+fn tell_next(sys: &mut System, fd: i32, t: Telling, at: usize) -> Telling {
     if t.skip {
         return Telling {
             skip: false,
@@ -64,35 +65,35 @@ fn tell_next(fd: i32, t: Telling, at: usize) -> Telling {
         };
     }
     let mut word = io::buffer();
-    let n = os::arg(at, &mut word);
-    tell_word(fd, t, &word[..n])
+    let n = sys.arg(at, &mut word);
+    tell_word(sys, fd, t, &word[..n])
 }
 
 // All words but the program's name and `--status FILE`, parted by spaces; whether they were written.
-pub fn write_words(fd: i32) -> bool {
+pub fn write_words(sys: &mut System, fd: i32) -> bool {
     let mut t = Telling {
         skip: false,
         space: 0,
         good: true,
     };
-    for at in 1..os::arg_count() {
-        t = tell_next(fd, t, at);
+    for at in 1..sys.arg_count() {
+        t = tell_next(sys, fd, t, at);
     }
     t.good
 }
 
 // The names of a blend and of a window, and a file's name; whether each was written.
-pub fn write_blend(fd: i32, n: u64) -> bool {
-    write_nth(fd, &BLENDS, 32, n as usize)
+pub fn write_blend(sys: &mut System, fd: i32, n: u64) -> bool {
+    write_nth(sys, fd, &BLENDS, 32, n as usize)
 }
 
-pub fn write_window(fd: i32, n: u64) -> bool {
-    write_nth(fd, &WINDOWS, 32, n as usize)
+pub fn write_window(sys: &mut System, fd: i32, n: u64) -> bool {
+    write_nth(sys, fd, &WINDOWS, 32, n as usize)
 }
 
-pub fn write_file_name(fd: i32, p: Place) -> bool {
+pub fn write_file_name(sys: &mut System, fd: i32, p: Place) -> bool {
     let mut word = io::buffer();
-    let n = os::arg(p.at, &mut word);
+    let n = sys.arg(p.at, &mut word);
     let start = bytes_of(&word[..n], p.from);
-    write_word(fd, 0, &word[start..n])
+    write_word(sys, fd, 0, &word[start..n])
 }

@@ -7,6 +7,7 @@ use crate::names::{
 use crate::options::{Options, options_of};
 use crate::reading::{Reading, stopped, with_count, with_two, with_value};
 use crate::slots::{has, keep};
+use system::System;
 
 // The place k words further. A run has no million words.
 fn past(at: usize, k: usize) -> usize {
@@ -30,8 +31,8 @@ fn given(r: Reading, name: usize, k: usize) -> Reading {
     s
 }
 
-fn lacking(r: Reading, name: usize, line: usize) -> Reading {
-    complain(name, line);
+fn lacking(sys: &mut System, r: Reading, name: usize, line: usize) -> Reading {
+    complain(sys, name, line);
     stopped(r)
 }
 
@@ -46,15 +47,15 @@ fn is_none(error: i32, word: &[u8]) -> bool {
     (word[0] == 45) & (word[1] == 45)
 }
 
-fn read_one(r: Reading, name: usize) -> Reading {
+fn read_one(sys: &mut System, r: Reading, name: usize) -> Reading {
     let mut word = io::buffer();
     let at = past(r.next, 1);
-    let n = os::arg(at, &mut word);
-    let error = os::errno();
+    let n = sys.arg(at, &mut word);
+    let error = sys.errno();
     if is_none(error, &word[..n]) {
-        return lacking(r, name, LACKS_ONE);
+        return lacking(sys, r, name, LACKS_ONE);
     }
-    with_value(given(r, name, 2), name, at, 0, &word[..n])
+    with_value(sys, given(r, name, 2), name, at, 0, &word[..n])
 }
 
 // The complaint where one of several words is missing.
@@ -63,97 +64,97 @@ fn lacks(name: usize) -> usize {
 }
 
 // The second word, where there is a first one.
-fn read_second(r: Reading, name: usize, error: i32, first: &[u8]) -> Reading {
+fn read_second(sys: &mut System, r: Reading, name: usize, error: i32, first: &[u8]) -> Reading {
     if error != 0 {
-        return lacking(r, name, lacks(name));
+        return lacking(sys, r, name, lacks(name));
     }
     let mut word = io::buffer();
-    let n = os::arg(past(r.next, 2), &mut word);
-    let error = os::errno();
+    let n = sys.arg(past(r.next, 2), &mut word);
+    let error = sys.errno();
     if is_none(0, first) | is_none(error, &word[..n]) {
-        return lacking(r, name, lacks(name));
+        return lacking(sys, r, name, lacks(name));
     }
-    with_two(given(r, name, 3), name, first, &word[..n])
+    with_two(sys, given(r, name, 3), name, first, &word[..n])
 }
 
-fn read_two(r: Reading, name: usize) -> Reading {
+fn read_two(sys: &mut System, r: Reading, name: usize) -> Reading {
     let mut word = io::buffer();
-    let n = os::arg(past(r.next, 1), &mut word);
-    let error = os::errno();
-    read_second(r, name, error, &word[..n])
+    let n = sys.arg(past(r.next, 1), &mut word);
+    let error = sys.errno();
+    read_second(sys, r, name, error, &word[..n])
 }
 
 // `--sinc POINTS FACTOR BLEND`: the points, and the two words behind them.
-fn read_sinc(r: Reading) -> Reading {
+fn read_sinc(sys: &mut System, r: Reading) -> Reading {
     let mut word = io::buffer();
     let at = past(r.next, 1);
-    let n = os::arg(at, &mut word);
-    let error = os::errno();
+    let n = sys.arg(at, &mut word);
+    let error = sys.errno();
     if is_none(error, &word[..n]) {
-        return lacking(r, SINC, LACKS_THREE);
+        return lacking(sys, r, SINC, LACKS_THREE);
     }
-    let mut s = with_count(r, SINC, &word[..n]);
+    let mut s = with_count(sys, r, SINC, &word[..n]);
     if !s.good {
         return s;
     }
     s.next = at;
-    read_two(s, SINC)
+    read_two(sys, s, SINC)
 }
 
 // A name that stands by itself, and the words that it takes.
-fn read_values(r: Reading, name: usize) -> Reading {
+fn read_values(sys: &mut System, r: Reading, name: usize) -> Reading {
     if name >= RAW {
         return given(r, name, 1);
     }
     if name == SINC {
-        return read_sinc(r);
+        return read_sinc(sys, r);
     }
     if name >= RATES {
-        return read_two(r, name);
+        return read_two(sys, r, name);
     }
-    read_one(r, name)
+    read_one(sys, r, name)
 }
 
 // Whether a name may be given here; `joined` where a value stands behind a `=` in the same word.
-fn is_right(r: Reading, name: usize, joined: bool, word: &[u8]) -> bool {
+fn is_right(sys: &mut System, r: Reading, name: usize, joined: bool, word: &[u8]) -> bool {
     if name == 0 {
-        complain_of(name, UNKNOWN, word);
+        complain_of(sys, name, UNKNOWN, word);
         return false;
     }
     if (name >= RATES) & joined {
-        complain_of(name, NO_VALUE, word);
+        complain_of(sys, name, NO_VALUE, word);
         return false;
     }
     if has(r.seen, name) & (name != AT) & (name != RAMP) {
-        complain(name, TWICE);
+        complain(sys, name, TWICE);
         return false;
     }
     true
 }
 
-fn read_word(r: Reading, word: &[u8]) -> Reading {
+fn read_word(sys: &mut System, r: Reading, word: &[u8]) -> Reading {
     let n = word.len();
     let end = printer::bytes_of(word, scan::find(word, 0, n, 61));
     let name = number_of(&word[..end]);
-    if !is_right(r, name, end < n, word) {
+    if !is_right(sys, r, name, end < n, word) {
         return stopped(r);
     }
     if end < n {
         let s = given(r, name, 1);
-        return with_value(s, name, r.next, end + 1, &word[end + 1..]);
+        return with_value(sys, s, name, r.next, end + 1, &word[end + 1..]);
     }
-    read_values(r, name)
+    read_values(sys, r, name)
 }
 
-fn read_next(r: Reading) -> Reading {
+fn read_next(sys: &mut System, r: Reading) -> Reading {
     let mut word = io::buffer();
-    let n = os::arg(r.next, &mut word);
-    if os::errno() != 0 {
-        return lacking(r, 0, TOO_LONG);
+    let n = sys.arg(r.next, &mut word);
+    if sys.errno() != 0 {
+        return lacking(sys, r, 0, TOO_LONG);
     }
     let mut s = r;
     s.name = 0;
-    read_word(s, &word[..n])
+    read_word(sys, s, &word[..n])
 }
 
 fn has_more(r: Reading, count: usize) -> bool {
@@ -161,7 +162,7 @@ fn has_more(r: Reading, count: usize) -> bool {
 }
 
 // All the words. A run has fewer than the turns that are counted down.
-fn read_all(slots: &mut [u64], changes: &mut [u64]) -> Reading {
+fn read_all(sys: &mut System, slots: &mut [u64], changes: &mut [u64]) -> Reading {
     let mut r = Reading {
         seen: 0,
         next: 1,
@@ -172,11 +173,11 @@ fn read_all(slots: &mut [u64], changes: &mut [u64]) -> Reading {
         second: 0,
         third: 0,
     };
-    let count = os::arg_count();
+    let count = sys.arg_count();
     let mut turns: u64 = 1048576;
     while turns > 0 && has_more(r, count) {
         let k = r.changes;
-        r = read_next(r);
+        r = read_next(sys, r);
         keep(r, k, slots, changes);
         turns -= 1;
     }
@@ -188,21 +189,21 @@ fn wide(n: u32) -> usize {
 }
 
 // With --tones nothing goes but --out, --status and --force.
-fn fits_tones(seen: u64) -> bool {
+fn fits_tones(sys: &mut System, seen: u64) -> bool {
     let idle = seen & 0x7def7e;
     if idle == 0 {
         return true;
     }
-    complain(wide(u64::trailing_zeros(idle)), IDLE);
+    complain(sys, wide(u64::trailing_zeros(idle)), IDLE);
     false
 }
 
 // A pass has a sinc or a degree; what helps to build a table wants a sinc, and no table. Whether that holds.
-fn fits_kind(seen: u64) -> bool {
+fn fits_kind(sys: &mut System, seen: u64) -> bool {
     let sinc = has(seen, SINC);
     let table = has(seen, TABLE);
     if sinc & has(seen, DEGREE) {
-        complain(SINC, TWO_KINDS);
+        complain(sys, SINC, TWO_KINDS);
         return false;
     }
     let barred = if !sinc {
@@ -217,6 +218,7 @@ fn fits_kind(seen: u64) -> bool {
         return true;
     }
     complain(
+        sys,
         wide(u64::trailing_zeros(idle)),
         if sinc { WITH_TABLE } else { NO_SINC },
     );
@@ -224,27 +226,27 @@ fn fits_kind(seen: u64) -> bool {
 }
 
 // A pass wants a ratio, and room for its log.
-fn fits_pass(o: Options) -> bool {
+fn fits_pass(sys: &mut System, o: Options) -> bool {
     let seen = o.seen;
     let log = o.log;
     let output = o.output;
     if !(has(seen, RATIO) | has(seen, RATES)) {
-        complain(RATIO, NO_RATIO);
+        complain(sys, RATIO, NO_RATIO);
         return false;
     }
     if has(seen, RATIO) & has(seen, RATES) {
-        complain(RATES, TWO_RATIOS);
+        complain(sys, RATES, TWO_RATIOS);
         return false;
     }
     if has(seen, LOG) & (log.at == 0) & (output.at == 0) {
-        complain(LOG, LOG_ON_OUTPUT);
+        complain(sys, LOG, LOG_ON_OUTPUT);
         return false;
     }
-    fits_kind(seen)
+    fits_kind(sys, seen)
 }
 
 // Whether the words go together.
-fn fits(o: Options) -> bool {
+fn fits(sys: &mut System, o: Options) -> bool {
     if !o.good {
         return false;
     }
@@ -252,17 +254,17 @@ fn fits(o: Options) -> bool {
         return true;
     }
     if o.has_tones {
-        return fits_tones(o.seen);
+        return fits_tones(sys, o.seen);
     }
-    fits_pass(o)
+    fits_pass(sys, o)
 }
 
 // What the words ask for. What is wrong with them is told.
-pub fn read_words(changes: &mut [u64]) -> Options {
+pub fn read_words(sys: &mut System, changes: &mut [u64]) -> Options {
     let mut slots = [0u64; 96];
-    let r = read_all(&mut slots, changes);
+    let r = read_all(sys, &mut slots, changes);
     let mut o = options_of(r, &slots);
-    let good = fits(o);
+    let good = fits(sys, o);
     o.good = good;
     o
 }

@@ -7,6 +7,7 @@ use big::Big;
 use lines::{Line, distance_of, is_inside};
 use position_text::{put_length, put_position, put_rounded_length, put_rounded_position};
 use printer::{bytes_of, put_bytes};
+use system::System;
 
 // A name, and a position as a decimal and exact.
 fn put_place(out: &mut [u8], at: usize, name: &[u8], b: Big) -> usize {
@@ -52,13 +53,13 @@ fn put_after(out: &mut [u8], at: usize, p: PassLine) -> usize {
 }
 
 // Writes the line of a block: the form with its numbers, and the positions behind it.
-pub fn write_block(log: i32, form: &[u8], numbers: &[u64], p: PassLine) -> bool {
+pub fn write_block(sys: &mut System, log: i32, form: &[u8], numbers: &[u64], p: PassLine) -> bool {
     let mut text = [0u8; 1024];
     let front = forms::put_form(&mut text, form, numbers);
     let after = put_after(&mut text, front, p);
     let n = put_bytes(&mut text, after, b"\n");
     let k = bytes_of(&text, n);
-    io::write_all(log, &text[..k])
+    sys.write_all(log, &text[..k])
 }
 
 fn put_inside(out: &mut [u8], at: usize, l: Line) -> usize {
@@ -69,7 +70,7 @@ fn put_inside(out: &mut [u8], at: usize, l: Line) -> usize {
 }
 
 // The line of the pass.
-fn write_line(log: i32, p: PassLine) -> bool {
+fn write_line(sys: &mut System, log: i32, p: PassLine) -> bool {
     let l = p.line;
     let mut text = [0u8; 1024];
     let front = forms::put_form(&mut text, b"line N # B #", &[l.frames, l.blocks]);
@@ -79,7 +80,7 @@ fn write_line(log: i32, p: PassLine) -> bool {
     let end = put_end(&mut text, inside, p.end);
     let n = put_bytes(&mut text, end, b"\n");
     let k = bytes_of(&text, n);
-    io::write_all(log, &text[..k])
+    sys.write_all(log, &text[..k])
 }
 
 // A figure: the log has its bits too.
@@ -114,7 +115,15 @@ fn put_start(out: &mut [u8], log: bool) -> usize {
 }
 
 // A line of the comparison: its name, its figures, and what is to be said of them.
-fn write_figures(fd: i32, name: &[u8], x: f64, more: &[u8], rate: u64, log: bool) -> bool {
+fn write_figures(
+    sys: &mut System,
+    fd: i32,
+    name: &[u8],
+    x: f64,
+    more: &[u8],
+    rate: u64,
+    log: bool,
+) -> bool {
     let mut text = [0u8; 512];
     let start = put_start(&mut text, log);
     let named = put_bytes(&mut text, start, name);
@@ -122,16 +131,25 @@ fn write_figures(fd: i32, name: &[u8], x: f64, more: &[u8], rate: u64, log: bool
     let said = put_bytes(&mut text, figures, more);
     let n = put_bytes(&mut text, said, b"\n");
     let k = bytes_of(&text, n);
-    io::write_all(fd, &text[..k])
+    sys.write_all(fd, &text[..k])
 }
 
-fn write_bound(fd: i32, l: Line, rate: u64, log: bool) -> bool {
+fn write_bound(sys: &mut System, fd: i32, l: Line, rate: u64, log: bool) -> bool {
     let x = samples_in(l.most);
     let name = b"the proved bound: ";
     if is_inside(l) {
-        return write_figures(fd, name, x, b", and the distance is inside it", rate, log);
+        return write_figures(
+            sys,
+            fd,
+            name,
+            x,
+            b", and the distance is inside it",
+            rate,
+            log,
+        );
     }
     write_figures(
+        sys,
         fd,
         name,
         x,
@@ -141,7 +159,7 @@ fn write_bound(fd: i32, l: Line, rate: u64, log: bool) -> bool {
     )
 }
 
-fn write_rounding(fd: i32, p: PassLine, rate: u64, log: bool) -> bool {
+fn write_rounding(sys: &mut System, fd: i32, p: PassLine, rate: u64, log: bool) -> bool {
     let mut more = [0u8; 128];
     let n = forms::put_form(
         &mut more,
@@ -150,6 +168,7 @@ fn write_rounding(fd: i32, p: PassLine, rate: u64, log: bool) -> bool {
     );
     let k = bytes_of(&more, n);
     write_figures(
+        sys,
         fd,
         b"the rounding of 1/ratio: ",
         p.rounding,
@@ -160,11 +179,12 @@ fn write_rounding(fd: i32, p: PassLine, rate: u64, log: bool) -> bool {
 }
 
 // What the pass is off by, what it may be off by, and what it would be off by for other reasons.
-fn write_comparison(fd: i32, p: PassLine, rate: u64, log: bool) -> bool {
+fn write_comparison(sys: &mut System, fd: i32, p: PassLine, rate: u64, log: bool) -> bool {
     let l = p.line;
     let distance = samples_in(distance_of(l));
     let way = samples_in(positions::distance(l.exactly, p.start));
     let a = write_figures(
+        sys,
         fd,
         b"the running sum's distance: ",
         distance,
@@ -172,18 +192,18 @@ fn write_comparison(fd: i32, p: PassLine, rate: u64, log: bool) -> bool {
         rate,
         log,
     );
-    let b = write_bound(fd, l, rate, log);
-    let c = write_rounding(fd, p, rate, log);
+    let b = write_bound(sys, fd, l, rate, log);
+    let c = write_rounding(sys, fd, p, rate, log);
     let clock = b"one part in 10^9 of the clock: ";
-    let d = write_figures(fd, clock, way / 1000000000.0, b"", rate, log);
+    let d = write_figures(sys, fd, clock, way / 1000000000.0, b"", rate, log);
     a & b & c & d
 }
 
 // Tells the line of a pass at its end; the rate is the input's, 0 where it is not known. Whether the log took it.
-pub fn tell_line(log: i32, log_file: bool, p: PassLine, rate: u64) -> bool {
+pub fn tell_line(sys: &mut System, log: i32, log_file: bool, p: PassLine, rate: u64) -> bool {
     if log_file {
-        write_comparison(libc::STDERR_FILENO, p, rate, false);
+        write_comparison(sys, system::ERROR, p, rate, false);
     }
-    let line = write_line(log, p);
-    line & write_comparison(log, p, rate, true)
+    let line = write_line(sys, log, p);
+    line & write_comparison(sys, log, p, rate, true)
 }

@@ -6,42 +6,51 @@
 use log_calls::{put_block, put_setting, put_start};
 use log_writer::Put;
 use printer::bytes_of;
+use system::System;
 
 // Writes the record that was put at the front of the bytes.
-fn is_written(fd: i32, put: Put, record: &[u8]) -> bool {
+fn is_written(sys: &mut System, fd: i32, put: Put, record: &[u8]) -> bool {
     let Put::Done(n) = put else {
         return false;
     };
     let k = bytes_of(record, n);
-    io::write_all(fd, &record[..k])
+    sys.write_all(fd, &record[..k])
 }
 
 // A construction, by the index that it leaves.
-pub fn write_construction(fd: i32, index: f64) -> bool {
+pub fn write_construction(sys: &mut System, fd: i32, index: f64) -> bool {
     if fd < 0 {
         return true;
     }
     let mut record = [0u8; 71];
     let put = put_start(1, index, &mut record);
-    is_written(fd, put, &record)
+    is_written(sys, fd, put, &record)
 }
 
 // An accepted setting of the ratio, by its bits: `what` is 1 where it holds at once, 2 where it is ramped to.
-pub fn write_setting(fd: i32, what: u64, ratio: u64) -> bool {
+pub fn write_setting(sys: &mut System, fd: i32, what: u64, ratio: u64) -> bool {
     if fd < 0 {
         return true;
     }
     let mut record = [0u8; 71];
     let put = put_setting(what, ratio, &mut record);
-    is_written(fd, put, &record)
+    is_written(sys, fd, put, &record)
 }
 
 // An accepted block: the sizes that it used, its starting step, its increment and the index that it leaves.
-pub fn write_block(fd: i32, output: usize, input: usize, t: f64, d: f64, index: f64) -> bool {
+pub fn write_block(
+    sys: &mut System,
+    fd: i32,
+    output: usize,
+    input: usize,
+    t: f64,
+    d: f64,
+    index: f64,
+) -> bool {
     if fd < 0 {
         return true;
     }
     let mut record = [0u8; 71];
     let put = put_block(output, input, t, d, index, &mut record);
-    is_written(fd, put, &record)
+    is_written(sys, fd, put, &record)
 }

@@ -6,6 +6,7 @@ use error::Answer;
 use options::{Options, say, say_refused, say_start};
 use printer::samples_of;
 use samples::least;
+use system::System;
 use window_points::Built;
 use windows::WindowFunction;
 
@@ -52,10 +53,11 @@ fn cutoff_of(o: Options) -> f64 {
 }
 
 // Builds the table; whether that is done. A refusal, and a table that is too large, are told.
-fn is_built(o: Options, table: &mut [f64]) -> bool {
+fn is_built(sys: &mut System, o: Options, table: &mut [f64]) -> bool {
     if table.len() > 65536 {
-        say_start();
+        say_start(sys);
         say(
+            sys,
             b"a table of up to 65536 entries, POINTS times FACTOR, is built here: --table FILE takes a larger one\n",
         );
         return false;
@@ -69,8 +71,8 @@ fn is_built(o: Options, table: &mut [f64]) -> bool {
     ) {
         Built::Done => true,
         Built::Refused(r) => {
-            say_start();
-            say_refused(r);
+            say_start(sys);
+            say_refused(sys, r);
             false
         }
     }
@@ -87,10 +89,10 @@ struct Got {
 }
 
 // Reads on behind the entries that are there, as many as a read takes.
-fn read_part(fd: i32, table: &mut [f64], held: &mut [f64], g: Got) -> Got {
+fn read_part(sys: &mut System, fd: i32, table: &mut [f64], held: &mut [f64], g: Got) -> Got {
     let at = samples_of(table, g.entries as usize);
     let n = least(65536, table.len() - at);
-    let r = blocks::read_frames(fd, &mut table[at..at + n], held, g.more, 1, n);
+    let r = blocks::read_frames(sys, fd, &mut table[at..at + n], held, g.more, 1, n);
     Got {
         entries: tally::plus(at as u64, r.frames as u64),
         left: if r.left > 0 { r.left as u64 } else { g.left },
@@ -100,87 +102,88 @@ fn read_part(fd: i32, table: &mut [f64], held: &mut [f64], g: Got) -> Got {
 }
 
 // Four parts make the largest table.
-fn read_all(fd: i32, table: &mut [f64]) -> Got {
+fn read_all(sys: &mut System, fd: i32, table: &mut [f64]) -> Got {
     let mut held = [0.0; 1];
-    let r = blocks::read_first(fd, &mut held, 1);
+    let r = blocks::read_first(sys, fd, &mut held, 1);
     let none = Got {
         entries: 0,
         left: r.left as u64,
         more: r.held,
         failed: r.failed,
     };
-    let first = read_part(fd, table, &mut held, none);
-    let second = read_part(fd, table, &mut held, first);
-    let third = read_part(fd, table, &mut held, second);
-    read_part(fd, table, &mut held, third)
+    let first = read_part(sys, fd, table, &mut held, none);
+    let second = read_part(sys, fd, table, &mut held, first);
+    let third = read_part(sys, fd, table, &mut held, second);
+    read_part(sys, fd, table, &mut held, third)
 }
 
-fn tell_length(o: Options, g: Got, wanted: u64) {
+fn tell_length(sys: &mut System, o: Options, g: Got, wanted: u64) {
     let bytes = std::num::wrapping_add_u64(g.entries << 3, g.left);
     let numbers = [bytes, o.points, o.factor, wanted << 3];
-    say_start();
+    say_start(sys);
     if g.more {
-        say(b"--table: the file has more than the ");
+        say(sys, b"--table: the file has more than the ");
     } else {
-        say(b"--table: the file has ");
+        say(sys, b"--table: the file has ");
     }
     forms::write_form(
-        libc::STDERR_FILENO,
+        sys,
+        system::ERROR,
         b"# bytes, and a table of # points with the factor # has #\n",
         &numbers,
     );
 }
 
 // Reads the table; whether it has the right length, and nothing else is in the file.
-fn is_read(o: Options, fd: i32, table: &mut [f64]) -> bool {
-    let g = read_all(fd, table);
+fn is_read(sys: &mut System, o: Options, fd: i32, table: &mut [f64]) -> bool {
+    let g = read_all(sys, fd, table);
     let wanted = table.len() as u64;
     if g.failed {
-        os::fail(b"resample: reading the table");
+        sys.fail(b"resample: reading the table");
         return false;
     }
     if (g.entries == wanted) & (g.left == 0) & !g.more {
         return true;
     }
-    tell_length(o, g, wanted);
+    tell_length(sys, o, g, wanted);
     false
 }
 
 // Whether the table stands in the area, from the file or built; a polynomial needs none.
-pub fn is_made(o: Options, fd: i32, table: &mut [f64]) -> bool {
+pub fn is_made(sys: &mut System, o: Options, fd: i32, table: &mut [f64]) -> bool {
     if !o.has_sinc {
         return true;
     }
     if fd < 0 {
-        return is_built(o, table);
+        return is_built(sys, o, table);
     }
-    is_read(o, fd, table)
+    is_read(sys, o, fd, table)
 }
 
-fn write_sum(log: i32, table: &[f64]) -> bool {
+fn write_sum(sys: &mut System, log: i32, table: &[f64]) -> bool {
     let sum = table_sum::sum_of(table);
     let mut digits = [0u8; 32];
     text::put_hex(&mut digits, 0, sum.first);
     text::put_hex(&mut digits, 16, sum.second);
-    let entries = forms::write_form(log, b" entries # sum ", &[table.len() as u64]);
-    entries & io::write_all(log, &digits)
+    let entries = forms::write_form(sys, log, b" entries # sum ", &[table.len() as u64]);
+    entries & sys.write_all(log, &digits)
 }
 
 // The table's line in the log, as the program `table` has it; or its file in the place of cutoff and window.
-pub fn write_line(o: Options, log: i32, table: &[f64]) -> bool {
+pub fn write_line(sys: &mut System, o: Options, log: i32, table: &[f64]) -> bool {
     if !o.has_sinc {
         return true;
     }
     let place = o.table;
     let numbers = [o.points, o.factor, text::bits_of(cutoff_of(o))];
-    let sizes = forms::write_form(log, b"table points # factor #", &numbers);
+    let sizes = forms::write_form(sys, log, b"table points # factor #", &numbers);
     if place.at > 0 {
-        let sum = write_sum(log, table) & forms::write_form(log, b" file ", &[]);
-        let name = options::write_file_name(log, place);
-        return sizes & sum & name & io::write_all(log, b"\n");
+        let sum = write_sum(sys, log, table) & forms::write_form(sys, log, b" file ", &[]);
+        let name = options::write_file_name(sys, log, place);
+        return sizes & sum & name & sys.write_all(log, b"\n");
     }
-    let cutoff = forms::write_form(log, b" cutoff $ window ", &numbers[2..]);
-    let window = options::write_window(log, o.window);
-    let sum = write_sum(log, table);
-    sizes & cutoff & window & sum & io::write_all(log, b"\n")
+    let cutoff = forms::write_form(sys, log, b" cutoff $ window ", &numbers[2..]);
+    let window = options::write_window(sys, log, o.window);
+    let sum = write_sum(sys, log, table);
+    sizes & cutoff & window & sum & sys.write_all(log, b"\n")
 }

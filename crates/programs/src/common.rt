@@ -1,4 +1,6 @@
 // The words --out, --status and --help, which a program takes beside its own.
+use system::System;
+
 const OUT: usize = 1;
 
 const STATUS: usize = 2;
@@ -26,16 +28,16 @@ pub fn no_words() -> Common {
     }
 }
 
-fn say(text: &[u8]) {
-    io::write_all(libc::STDERR_FILENO, text);
+fn say(sys: &mut System, text: &[u8]) {
+    sys.write_all(system::ERROR, text);
 }
 
 // Says for the program what is wrong with a word, up to the mark that opens it.
-pub fn bad(n: Common, program: &[u8], what: &[u8], word: &[u8]) -> Common {
-    say(program);
-    say(what);
-    say(word);
-    say(b"'\n");
+pub fn bad(sys: &mut System, n: Common, program: &[u8], what: &[u8], word: &[u8]) -> Common {
+    say(sys, program);
+    say(sys, what);
+    say(sys, word);
+    say(sys, b"'\n");
     let mut s = n;
     s.good = false;
     s
@@ -50,9 +52,10 @@ pub fn is_file(word: &[u8]) -> bool {
 }
 
 // The file's name that was wanted, at the place `at`.
-fn with_file(n: Common, program: &[u8], at: usize, word: &[u8]) -> Common {
+fn with_file(sys: &mut System, n: Common, program: &[u8], at: usize, word: &[u8]) -> Common {
     if !is_file(word) {
         return bad(
+            sys,
             n,
             program,
             b": --out and --status want a file's name of up to 4096 bytes behind them (./-x for -x), and not `",
@@ -83,9 +86,9 @@ fn name_of(word: &[u8]) -> usize {
     0
 }
 
-fn with_name(n: Common, program: &[u8], name: usize, word: &[u8]) -> Common {
+fn with_name(sys: &mut System, n: Common, program: &[u8], name: usize, word: &[u8]) -> Common {
     if ((name == OUT) & (n.out > 0)) | ((name == STATUS) & (n.status > 0)) {
-        return bad(n, program, b": this is given twice: `", word);
+        return bad(sys, n, program, b": this is given twice: `", word);
     }
     let mut s = n;
     if name == HELP {
@@ -102,18 +105,25 @@ pub fn is_common(n: Common, word: &[u8]) -> bool {
 }
 
 // Such a word, at the place `at`.
-pub fn with_word(n: Common, program: &[u8], at: usize, word: &[u8]) -> Common {
+pub fn with_word(sys: &mut System, n: Common, program: &[u8], at: usize, word: &[u8]) -> Common {
     if n.wants > 0 {
-        return with_file(n, program, at, word);
+        return with_file(sys, n, program, at, word);
     }
-    with_name(n, program, name_of(word), word)
+    with_name(sys, n, program, name_of(word), word)
 }
 
 // Whether nothing is missing behind the last word; `lacks` says that a word of the program's own is.
-pub fn complete(n: Common, lacks: bool, program: &[u8], what: &[u8], example: &[u8]) -> Common {
+pub fn complete(
+    sys: &mut System,
+    n: Common,
+    lacks: bool,
+    program: &[u8],
+    what: &[u8],
+    example: &[u8],
+) -> Common {
     let short = lacks | (n.out == 0);
     if n.good & ((short & !n.help) | (n.wants > 0)) {
-        return bad(n, program, what, example);
+        return bad(sys, n, program, what, example);
     }
     n
 }

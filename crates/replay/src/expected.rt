@@ -1,5 +1,6 @@
 // The stored answer to a line, read byte by byte and compared with the port's.
 use script::reader::{Input, read_byte};
+use system::System;
 
 // So many bytes were read after the mark, all of them as in the port's answer where `same` is true.
 #[derive(Clone, Copy)]
@@ -23,10 +24,10 @@ fn further(at: usize) -> usize {
 }
 
 // One byte more. At the line's end the port's answer must have ended too.
-fn step(buf: &mut [u8], c: Compared, answer: &[u8]) -> Compared {
+fn step(sys: &mut System, buf: &mut [u8], c: Compared, answer: &[u8]) -> Compared {
     let before = c.input;
     let at = c.at;
-    let input = read_byte(buf, before);
+    let input = read_byte(sys, buf, before);
     let byte = input.byte;
     if byte == 10 {
         return Compared {
@@ -47,8 +48,8 @@ fn step(buf: &mut [u8], c: Compared, answer: &[u8]) -> Compared {
 }
 
 // The mark that a stored answer starts with: 61 is `=`. A line with neither mark holds no answer.
-fn marked(buf: &mut [u8], before: Input) -> Compared {
-    let input = read_byte(buf, before);
+fn marked(sys: &mut System, buf: &mut [u8], before: Input) -> Compared {
+    let input = read_byte(sys, buf, before);
     let mark = input.byte;
     Compared {
         input,
@@ -60,12 +61,12 @@ fn marked(buf: &mut [u8], before: Input) -> Compared {
 }
 
 // Nothing says that a line ends, so the turns are counted down from a number that no run uses up.
-pub fn compare(buf: &mut [u8], input: Input, answer: &[u8]) -> Compared {
-    let mut c = marked(buf, input);
+pub fn compare(sys: &mut System, buf: &mut [u8], input: Input, answer: &[u8]) -> Compared {
+    let mut c = marked(sys, buf, input);
     let mut going = c.going;
     let mut turns = u64::MAX;
     while turns > 0 && going {
-        c = step(buf, c, answer);
+        c = step(sys, buf, c, answer);
         going = c.going;
         turns -= 1;
     }

@@ -10,6 +10,7 @@ use commands::{Served, begin, serve};
 use expected::compare;
 use printer::bytes_of;
 use report::{Tally, none_yet, print, with};
+use system::System;
 
 // What is kept from line to line. `going` is false once the list is over.
 #[derive(Clone, Copy)]
@@ -21,7 +22,7 @@ struct Replayed {
 
 // The stored answer, which stands next in the input, beside the port's. There is none once the list is
 // over.
-fn checked(s: Served, tally: Tally, buf: &mut [u8], out: &[u8]) -> Replayed {
+fn checked(sys: &mut System, s: Served, tally: Tally, buf: &mut [u8], out: &[u8]) -> Replayed {
     if s.end == 0 {
         return Replayed {
             served: s,
@@ -31,7 +32,7 @@ fn checked(s: Served, tally: Tally, buf: &mut [u8], out: &[u8]) -> Replayed {
     }
     let n = bytes_of(out, s.end);
     let from = s.input;
-    let found = compare(buf, from, &out[..n]);
+    let found = compare(sys, buf, from, &out[..n]);
     let kept = s.kept;
     let live = s.live;
     let input = found.input;
@@ -50,6 +51,7 @@ fn checked(s: Served, tally: Tally, buf: &mut [u8], out: &[u8]) -> Replayed {
 
 // Nothing says that the list ends, so the turns are counted down from a number that no run uses up.
 fn replay(
+    sys: &mut System,
     buf: &mut [u8],
     out: &mut [u8],
     input: &mut [f64],
@@ -66,8 +68,8 @@ fn replay(
     let mut going = true;
     let mut turns = u64::MAX;
     while turns > 0 && going {
-        let served = serve(r.served, buf, out, input, output, work, table, bytes);
-        r = checked(served, r.tally, buf, out);
+        let served = serve(sys, r.served, buf, out, input, output, work, table, bytes);
+        r = checked(sys, served, r.tally, buf, out);
         going = r.going;
         turns -= 1;
     }
@@ -75,7 +77,9 @@ fn replay(
 }
 
 // An answer that is longer than the buffer counts as another one.
-fn main() {
+fn main(rt: HostRuntime) {
+    let mut system = System::new(rt);
+    let sys = &mut system;
     let mut buf = io::large_buffer();
     let mut out = io::large_buffer();
     let mut input = [0.0; 131072];
@@ -83,7 +87,8 @@ fn main() {
     let mut work = [0.0; 131072];
     let mut table = [0.0; 262144];
     let mut bytes = [0; 262144];
-    print(replay(
+    let tally = replay(
+        sys,
         &mut buf,
         &mut out,
         &mut input,
@@ -91,5 +96,6 @@ fn main() {
         &mut work,
         &mut table,
         &mut bytes,
-    ));
+    );
+    print(sys, tally);
 }

@@ -1,5 +1,5 @@
 // How many answers were compared, and how many are as stored.
-use libc::STDOUT_FILENO;
+use system::{OUTPUT, System};
 
 // `first` is the number of the first answer that is another, 0 where there is none.
 #[derive(Clone, Copy)]
@@ -52,18 +52,18 @@ pub fn with(t: Tally, of_crate: bool, same: bool) -> Tally {
     }
 }
 
-fn print_line(word: &[u8], n: u64) {
-    io::write_all(STDOUT_FILENO, word);
-    io::print_decimal(STDOUT_FILENO, n);
-    io::write_all(STDOUT_FILENO, b"\n");
+fn print_line(sys: &mut System, word: &[u8], n: u64) {
+    sys.write_all(OUTPUT, word);
+    sys.print_decimal(OUTPUT, n);
+    sys.write_all(OUTPUT, b"\n");
 }
 
-pub fn print(t: Tally) {
-    print_line(b"answers of the crate: ", t.crates);
-    print_line(b"of these the same: ", t.crates_same);
-    print_line(b"answers by documents 01 and 02 alone: ", t.others);
-    print_line(b"of these the same: ", t.others_same);
+pub fn print(sys: &mut System, t: Tally) {
+    print_line(sys, b"answers of the crate: ", t.crates);
+    print_line(sys, b"of these the same: ", t.crates_same);
+    print_line(sys, b"answers by documents 01 and 02 alone: ", t.others);
+    print_line(sys, b"of these the same: ", t.others_same);
     if t.first > 0 {
-        print_line(b"the first other answer is number ", t.first);
+        print_line(sys, b"the first other answer is number ", t.first);
     }
 }

@@ -8,9 +8,11 @@ use blocks::Reading;
 use course::Run;
 use options::{Files, Options, say, say_start};
 use state::{Made, State};
+use system::System;
 
 // The pass itself. Its areas have up to 131,072 samples each.
 fn pass_over(
+    sys: &mut System,
     first: Run,
     o: Options,
     files: Files,
@@ -23,6 +25,7 @@ fn pass_over(
     let mut output = [0.0; 131072];
     let mut work = [0.0; 131072];
     let end = run::turns(
+        sys,
         first,
         o,
         files,
@@ -34,18 +37,19 @@ fn pass_over(
         &mut output,
         &mut work,
     );
-    course::ended_well(end, o, files, changes)
+    course::ended_well(sys, end, o, files, changes)
 }
 
 // Whether the input has a frame, and no mark of another kind of file.
-fn input_holds(r: Reading, force: bool) -> bool {
+fn input_holds(sys: &mut System, r: Reading, force: bool) -> bool {
     if r.failed {
-        os::fail(b"resample: reading the input");
+        sys.fail(b"resample: reading the input");
         return false;
     }
     if r.riff & !force {
-        say_start();
+        say_start(sys);
         say(
+            sys,
             b"the input begins with RIFF, as WAV files do, and not with samples: --force takes it as samples all the same\n",
         );
         return false;
@@ -54,46 +58,48 @@ fn input_holds(r: Reading, force: bool) -> bool {
 }
 
 // An input without a whole frame gives an output without one, and is told.
-fn tell_empty(left: usize) {
-    say_start();
+fn tell_empty(sys: &mut System, left: usize) {
+    say_start(sys);
     forms::write_form(
-        libc::STDERR_FILENO,
+        sys,
+        system::ERROR,
         b"the input has no whole frame (it has # bytes), so there is no output\n",
         &[left as u64],
     );
 }
 
 // The pass log, with the record of the construction of s.
-fn recorded(s: State, o: Options, files: Files) -> Files {
-    let f = options::open_passlog(o, files);
-    if pass_log::write_construction(f.passlog, s.index) {
+fn recorded(sys: &mut System, s: State, o: Options, files: Files) -> Files {
+    let f = options::open_passlog(sys, o, files);
+    if pass_log::write_construction(sys, f.passlog, s.index) {
         return f;
     }
-    os::fail(b"resample: writing the pass log");
+    sys.fail(b"resample: writing the pass log");
     options::no_files(false)
 }
 
 // The pass log, the log and its head, then the output, so that no output is emptied for a log that cannot be
 // written.
-fn opened(s: State, o: Options, read: Files, table: &[f64]) -> Files {
-    let files = recorded(s, o, read);
+fn opened(sys: &mut System, s: State, o: Options, read: Files, table: &[f64]) -> Files {
+    let files = recorded(sys, s, o, read);
     if !files.good {
         return files;
     }
-    let logged = options::open_log(o, files);
+    let logged = options::open_log(sys, o, files);
     if !logged.good {
         return logged;
     }
-    let head = course::write_head(o, logged, s, setup::mask_of(o));
-    if !(head & pass_table::write_line(o, logged.log, table)) {
-        os::fail(b"resample: writing the log");
+    let head = course::write_head(sys, o, logged, s, setup::mask_of(o));
+    if !(head & pass_table::write_line(sys, o, logged.log, table)) {
+        sys.fail(b"resample: writing the log");
         return options::no_files(false);
     }
-    options::open_output(o, logged)
+    options::open_output(sys, o, logged)
 }
 
 // Opens what is written, and runs the pass.
 fn begin(
+    sys: &mut System,
     s: State,
     o: Options,
     read: Files,
@@ -103,85 +109,97 @@ fn begin(
     held: &mut [f64],
     bytes: &mut [u8],
 ) -> bool {
-    let files = opened(s, o, read, table);
+    let files = opened(sys, s, o, read, table);
     if !files.good {
         return false;
     }
     if !r.held {
-        tell_empty(r.left);
+        tell_empty(sys, r.left);
         return false;
     }
-    let p = setup::first_pass(s.index, setup::mask_of(o), files, bytes);
-    pass_over(course::run_of(s, p), o, files, changes, table, held, bytes)
+    let p = setup::first_pass(sys, s.index, setup::mask_of(o), files, bytes);
+    pass_over(
+        sys,
+        course::run_of(s, p),
+        o,
+        files,
+        changes,
+        table,
+        held,
+        bytes,
+    )
 }
 
 // The pass of a record. The table is made, and the input's first frame and the plan are looked at, before
 // anything is written.
-fn pass_of(s: State, o: Options, changes: &[u64], table: &mut [f64]) -> bool {
-    let files = options::open_inputs(o);
+fn pass_of(sys: &mut System, s: State, o: Options, changes: &[u64], table: &mut [f64]) -> bool {
+    let files = options::open_inputs(sys, o);
     if !files.good {
         return false;
     }
-    if !pass_table::is_made(o, files.table, table) {
+    if !pass_table::is_made(sys, o, files.table, table) {
         return false;
     }
     let mut bytes = [0u8; 1024];
-    if !course::plan_holds(files.plan, &mut bytes) {
+    if !course::plan_holds(sys, files.plan, &mut bytes) {
         return false;
     }
     let mut held = [0.0; 16];
-    let r = blocks::read_first(files.input, &mut held, s.channels);
-    if !input_holds(r, o.force) {
+    let r = blocks::read_first(sys, files.input, &mut held, s.channels);
+    if !input_holds(sys, r, o.force) {
         return false;
     }
-    begin(s, o, files, r, changes, table, &mut held, &mut bytes)
+    begin(sys, s, o, files, r, changes, table, &mut held, &mut bytes)
 }
 
 // A table has up to 262,144 entries; a polynomial has none.
-fn pass_on(o: Options, changes: &[u64]) -> bool {
-    let Made::Ready(s) = setup::made_told(o) else {
+fn pass_on(sys: &mut System, o: Options, changes: &[u64]) -> bool {
+    let Made::Ready(s) = setup::made_told(sys, o) else {
         return false;
     };
-    if !setup::is_ready(s, setup::mask_of(o), 131072) {
+    if !setup::is_ready(sys, s, setup::mask_of(o), 131072) {
         return false;
     }
     let mut area = [0.0; 262144];
     let n = printer::samples_of(&area, pass_table::entries_of(o));
-    pass_of(s, o, changes, &mut area[..n])
+    pass_of(sys, s, o, changes, &mut area[..n])
 }
 
-fn tones_on(o: Options) -> bool {
-    let files = options::open_output(o, options::open_inputs(o));
+fn tones_on(sys: &mut System, o: Options) -> bool {
+    let inputs = options::open_inputs(sys, o);
+    let files = options::open_output(sys, o, inputs);
     if !files.good {
         return false;
     }
-    tones::write_tones(o.tones, files.output)
+    tones::write_tones(sys, o.tones, files.output)
 }
 
 // What the words ask for: help, the version, tones or a pass. Whether it went well.
-fn act(o: Options, changes: &[u64]) -> bool {
+fn act(sys: &mut System, o: Options, changes: &[u64]) -> bool {
     if o.help {
-        return options::help();
+        return options::help(sys);
     }
     if o.version {
-        return options::write_version(libc::STDOUT_FILENO);
+        return options::write_version(sys, system::OUTPUT);
     }
     if o.has_tones {
-        return tones_on(o);
+        return tones_on(sys, o);
     }
-    pass_on(o, changes)
+    pass_on(sys, o, changes)
 }
 
-fn status_of(o: Options, changes: &[u64]) -> u64 {
+fn status_of(sys: &mut System, o: Options, changes: &[u64]) -> u64 {
     if !o.good {
         return 2;
     }
-    if act(o, changes) { 0 } else { 1 }
+    if act(sys, o, changes) { 0 } else { 1 }
 }
 
-fn main() {
+fn main(rt: HostRuntime) {
+    let mut system = System::new(rt);
+    let sys = &mut system;
     let mut changes = [0u64; 48];
-    let o = options::read_words(&mut changes);
-    let status = status_of(o, &changes);
-    options::write_status(o, status);
+    let o = options::read_words(sys, &mut changes);
+    let status = status_of(sys, o, &changes);
+    options::write_status(sys, o, status);
 }

@@ -7,13 +7,15 @@ use course::{
 use options::{Files, Options};
 use process::{BlockOutcome, Ran};
 use state::State;
+use system::System;
 
-fn not_read(p: Pass) -> Pass {
-    os::fail(b"resample: reading the input");
+fn not_read(sys: &mut System, p: Pass) -> Pass {
+    sys.fail(b"resample: reading the input");
     stopped(p)
 }
 
 fn answered(
+    sys: &mut System,
     p: Pass,
     s: State,
     outcome: BlockOutcome,
@@ -27,19 +29,23 @@ fn answered(
     match answer {
         Ran::Refused(e) => {
             let form = b"block # was refused with number #\n";
-            run_of(state, refused(p, files, form, e))
+            run_of(state, refused(sys, p, files, form, e))
         }
-        Ran::Used(_) => run_of(state, accepted(p, s, state.index, r, raw, files, output)),
+        Ran::Used(_) => run_of(
+            state,
+            accepted(sys, p, s, state.index, r, raw, files, output),
+        ),
     }
 }
 
 // What the input has for the block of the record s, and the pass that knows whether it is over.
-fn has_read(p: Pass, files: Files, r: Reading) -> Pass {
+fn has_read(sys: &mut System, p: Pass, files: Files, r: Reading) -> Pass {
     let mut q = p;
     q.held = r.held;
     q.ended = p.ended | r.ended;
     if r.left > 0 {
         tell(
+            sys,
             files,
             b"the input ends within a frame: its last # bytes are no whole frame and are not used\n",
             &[r.left as u64],
@@ -51,6 +57,7 @@ fn has_read(p: Pass, files: Files, r: Reading) -> Pass {
 
 // Runs a block of the record s on the frames that were read.
 fn ran(
+    sys: &mut System,
     p: Pass,
     s: State,
     r: Reading,
@@ -62,11 +69,12 @@ fn ran(
     work: &mut [f64],
 ) -> Run {
     let outcome = lent::run_block(s, r.frames, p.mask, table, input, output, work);
-    answered(p, s, outcome, r, raw, files, output)
+    answered(sys, p, s, outcome, r, raw, files, output)
 }
 
 // One block of the record s, which has the changes before it.
 fn block(
+    sys: &mut System,
     p: Pass,
     s: State,
     raw: bool,
@@ -77,19 +85,20 @@ fn block(
     output: &mut [f64],
     work: &mut [f64],
 ) -> Run {
-    let r = read_frames(files.input, input, held, p.held, s.channels, s.input);
+    let r = read_frames(sys, files.input, input, held, p.held, s.channels, s.input);
     if r.failed {
-        return run_of(s, not_read(p));
+        return run_of(s, not_read(sys, p));
     }
-    let q = has_read(p, files, r);
+    let q = has_read(sys, p, files, r);
     if raw & q.ended & (r.frames == 0) & (s.input > 0) {
         return run_of(s, finished(q));
     }
-    ran(q, s, r, raw, files, table, input, output, work)
+    ran(sys, q, s, r, raw, files, table, input, output, work)
 }
 
-fn too_large(p: Pass, files: Files) -> Pass {
+fn too_large(sys: &mut System, p: Pass, files: Files) -> Pass {
     stop_told(
+        sys,
         p,
         files,
         b"the next block has more than 131072 samples: lower --chunk or --channels\n",
@@ -99,6 +108,7 @@ fn too_large(p: Pass, files: Files) -> Pass {
 
 // The next block, where the changes before it did not stop the pass and the areas hold it.
 fn next_block(
+    sys: &mut System,
     run: Run,
     raw: bool,
     files: Files,
@@ -114,12 +124,13 @@ fn next_block(
         return run;
     }
     if lent::area_length(s.channels, s.output) > output.len() {
-        return run_of(s, too_large(p, files));
+        return run_of(s, too_large(sys, p, files));
     }
-    block(p, s, raw, files, table, input, held, output, work)
+    block(sys, p, s, raw, files, table, input, held, output, work)
 }
 
 fn turn(
+    sys: &mut System,
     before: Run,
     o: Options,
     files: Files,
@@ -131,12 +142,13 @@ fn turn(
     output: &mut [f64],
     work: &mut [f64],
 ) -> Run {
-    let run = before_block(before, files, o.changes, changes, bytes);
-    next_block(run, o.raw, files, table, input, held, output, work)
+    let run = before_block(sys, before, files, o.changes, changes, bytes);
+    next_block(sys, run, o.raw, files, table, input, held, output, work)
 }
 
 // Nothing says that the input ends, so the turns are counted down from a number that no pass uses up.
 pub fn turns(
+    sys: &mut System,
     first: Run,
     o: Options,
     files: Files,
@@ -152,7 +164,7 @@ pub fn turns(
     let mut left = u64::MAX;
     while left > 0 && is_going(run) {
         run = turn(
-            run, o, files, changes, table, bytes, input, held, output, work,
+            sys, run, o, files, changes, table, bytes, input, held, output, work,
         );
         left -= 1;
     }

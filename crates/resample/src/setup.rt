@@ -7,6 +7,7 @@ use kinds::Kind;
 use options::{Files, Options, say, say_refused, say_start};
 use sizes::FixedAsync;
 use state::{Made, State};
+use system::System;
 
 fn degree_of(points: u64) -> PolynomialDegree {
     match points {
@@ -55,11 +56,11 @@ fn made(o: Options) -> Made {
 }
 
 // The record, or the refusal told.
-pub fn made_told(o: Options) -> Made {
+pub fn made_told(sys: &mut System, o: Options) -> Made {
     let m = made(o);
     if let Made::Refused(r) = m {
-        say_start();
-        say_refused(r);
+        say_start(sys);
+        say_refused(sys, r);
     }
     m
 }
@@ -90,16 +91,19 @@ fn mask_holds(mask: u64, channels: usize) -> bool {
 
 // Whether the areas hold a pass, and the mask is one. It is asked before a file is opened, and the mask
 // has the number that the block run has for it.
-pub fn is_ready(s: State, mask: u64, most: usize) -> bool {
+pub fn is_ready(sys: &mut System, s: State, mask: u64, most: usize) -> bool {
     let len = lent::work_length(s);
     if (len == 0) | (len > most) {
-        say_start();
-        say(b"this pass has areas of more than 131072 samples: lower --chunk, --m or --channels\n");
+        say_start(sys);
+        say(
+            sys,
+            b"this pass has areas of more than 131072 samples: lower --chunk, --m or --channels\n",
+        );
         return false;
     }
     if !mask_holds(mask, s.channels) {
-        say_start();
-        say_refused(Refusal::BufferShape);
+        say_start(sys);
+        say_refused(sys, Refusal::BufferShape);
         return false;
     }
     true
@@ -107,7 +111,7 @@ pub fn is_ready(s: State, mask: u64, most: usize) -> bool {
 
 // A pass before its first block: one frame of the input is held, and the plan stands before its first line.
 // The line begins at the index of the construction.
-pub fn first_pass(index: f64, mask: u64, files: Files, bytes: &mut [u8]) -> Pass {
+pub fn first_pass(sys: &mut System, index: f64, mask: u64, files: Files, bytes: &mut [u8]) -> Pass {
     Pass {
         counts: tally::none_yet(),
         line: pass_line::started(index),
@@ -117,10 +121,10 @@ pub fn first_pass(index: f64, mask: u64, files: Files, bytes: &mut [u8]) -> Pass
         started: false,
         first_used: 0,
         first_index: 0.0,
-        second: second_now(),
+        second: second_now(sys),
         going: true,
         whole: false,
         good: true,
-        plan: next_line(files.plan, bytes, no_plan()),
+        plan: next_line(sys, files.plan, bytes, no_plan()),
     }
 }

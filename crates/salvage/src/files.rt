@@ -3,6 +3,7 @@ use crate::listing::say;
 use crate::words::Words;
 use file_facts::{Facts, is_same};
 use programs::Common;
+use system::System;
 
 // The log, and where its records go. `size` is the log's where it is a regular file, else 0. `good` says that
 // both are open.
@@ -24,81 +25,85 @@ fn no_files() -> Files {
 }
 
 // Says so where a file could not be opened.
-fn told(fd: i32, name: &[u8]) -> i32 {
+fn told(sys: &mut System, fd: i32, name: &[u8]) -> i32 {
     if fd < 0 {
-        say(b"salvage: cannot open ");
-        os::fail(name);
+        say(sys, b"salvage: cannot open ");
+        sys.fail(name);
     }
     fd
 }
 
 // Opens the log; `-` is standard input.
-fn open_log(at: usize) -> i32 {
+fn open_log(sys: &mut System, at: usize) -> i32 {
     let mut word = io::buffer();
-    let n = os::arg(at, &mut word);
+    let n = sys.arg(at, &mut word);
     if check::same(&word[..n], b"-") {
-        return libc::STDIN_FILENO;
+        return system::INPUT;
     }
-    told(os::open_read(&word[..n]), &word[..n])
+    let fd = sys.open_read(&word[..n]);
+    told(sys, fd, &word[..n])
 }
 
 // Opens the file that is written; what it held is gone.
-fn open_out(at: usize) -> i32 {
+fn open_out(sys: &mut System, at: usize) -> i32 {
     let mut word = io::buffer();
-    let n = os::arg(at, &mut word);
-    told(os::open_overwrite(&word[..n]), &word[..n])
+    let n = sys.arg(at, &mut word);
+    let fd = sys.open_overwrite(&word[..n]);
+    told(sys, fd, &word[..n])
 }
 
 // What the system tells of the file that the word at the place `at` names: nothing where there is no word.
-fn facts_in(at: usize) -> Facts {
+fn facts_in(sys: &mut System, at: usize) -> Facts {
     if at == 0 {
-        return file_facts::facts_of(-1);
+        return file_facts::facts_of(sys, -1);
     }
     let mut word = io::buffer();
-    let n = os::arg(at, &mut word);
+    let n = sys.arg(at, &mut word);
     if check::same(&word[..n], b"-") {
-        return file_facts::facts_of(libc::STDIN_FILENO);
+        return file_facts::facts_of(sys, system::INPUT);
     }
-    file_facts::facts_at(&word[..n])
+    file_facts::facts_at(sys, &word[..n])
 }
 
 // Whether two words are one name, of a file that may not be there yet.
-fn is_same_name(a: usize, b: usize) -> bool {
+fn is_same_name(sys: &mut System, a: usize, b: usize) -> bool {
     if (a == 0) | (b == 0) {
         return false;
     }
     let mut first = io::buffer();
     let mut second = io::buffer();
-    let n = os::arg(a, &mut first);
-    let m = os::arg(b, &mut second);
+    let n = sys.arg(a, &mut first);
+    let m = sys.arg(b, &mut second);
     check::same(&first[..n], &second[..m])
 }
 
 // Whether --out names the file of the status too.
-fn is_status(common: Common, out: Facts) -> bool {
-    is_same(out, facts_in(common.status)) | is_same_name(common.out, common.status)
+fn is_status(sys: &mut System, common: Common, out: Facts) -> bool {
+    is_same(out, facts_in(sys, common.status)) | is_same_name(sys, common.out, common.status)
 }
 
 // Says of a file that --out names what else it is; whether it is that.
-fn is_told(same: bool, what: &[u8]) -> bool {
+fn is_told(sys: &mut System, same: bool, what: &[u8]) -> bool {
     if same {
-        say(b"salvage: --out names ");
-        say(what);
-        say(b": nothing was written\n");
+        say(sys, b"salvage: --out names ");
+        say(sys, what);
+        say(sys, b": nothing was written\n");
     }
     same
 }
 
 // Whether --out is another file of the run, before it is opened; it is told.
-fn has_clash(common: Common, log: Facts) -> bool {
-    let out = facts_in(common.out);
-    let output = file_facts::facts_of(libc::STDOUT_FILENO);
-    let a = is_told(is_same(out, log), b"the log");
+fn has_clash(sys: &mut System, common: Common, log: Facts) -> bool {
+    let out = facts_in(sys, common.out);
+    let output = file_facts::facts_of(sys, system::OUTPUT);
+    let a = is_told(sys, is_same(out, log), b"the log");
     let b = is_told(
+        sys,
         file_facts::same_file(out, output),
         b"standard output, where the listing goes",
     );
-    let c = is_told(is_status(common, out), b"the file of --status");
+    let status = is_status(sys, common, out);
+    let c = is_told(sys, status, b"the file of --status");
     a | b | c
 }
 
@@ -111,18 +116,18 @@ fn size_of(log: Facts) -> u64 {
 
 // Opens the log, and then what is written. Where one cannot be opened, or --out is another file of the run,
 // that is told, and `good` is false.
-pub fn open_files(w: Words) -> Files {
-    programs::fill_low();
-    let input = open_log(w.file);
+pub fn open_files(sys: &mut System, w: Words) -> Files {
+    programs::fill_low(sys);
+    let input = open_log(sys, w.file);
     if input < 0 {
         return no_files();
     }
-    let log = file_facts::facts_of(input);
+    let log = file_facts::facts_of(sys, input);
     let common = w.common;
-    if has_clash(common, log) {
+    if has_clash(sys, common, log) {
         return no_files();
     }
-    let output = open_out(common.out);
+    let output = open_out(sys, common.out);
     Files {
         input,
         output,
@@ -132,25 +137,27 @@ pub fn open_files(w: Words) -> Files {
 }
 
 // Whether the file for the status is another file of the run.
-fn is_status_taken(w: Words) -> bool {
+fn is_status_taken(sys: &mut System, w: Words) -> bool {
     let common = w.common;
-    let status = facts_in(common.status);
-    let a = is_same(status, facts_in(w.file));
-    let b = is_status(common, facts_in(common.out));
-    let c = is_same(status, file_facts::facts_of(libc::STDOUT_FILENO));
+    let status = facts_in(sys, common.status);
+    let a = is_same(status, facts_in(sys, w.file));
+    let out = facts_in(sys, common.out);
+    let b = is_status(sys, common, out);
+    let c = is_same(status, file_facts::facts_of(sys, system::OUTPUT));
     a | b | c
 }
 
 // Writes the status and a line feed into the file that --status names, if one is named and it is no other
 // file of the run.
-pub fn write_status(w: Words, status: u64) {
+pub fn write_status(sys: &mut System, w: Words, status: u64) {
     let common = w.common;
     if common.status == 0 {
         return;
     }
-    programs::fill_low();
-    if is_status_taken(w) {
+    programs::fill_low(sys);
+    if is_status_taken(sys, w) {
         return;
     }
-    programs::put_status(open_out(common.status), status);
+    let fd = open_out(sys, common.status);
+    programs::put_status(sys, fd, status);
 }

@@ -1,6 +1,7 @@
 // The listing on standard output, the records in their file, and what is told of them.
 use log_parts::Walk;
 use printer::{bytes_of, put_byte, put_bytes, put_decimal};
+use system::System;
 use tally::plus;
 
 // How much was listed: records that are kept and their bytes, stretches that are skipped and theirs. `good` is
@@ -14,21 +15,24 @@ pub struct Listed {
     pub good: bool,
 }
 
-pub fn say(text: &[u8]) {
-    io::write_all(libc::STDERR_FILENO, text);
+pub fn say(sys: &mut System, text: &[u8]) {
+    sys.write_all(system::ERROR, text);
 }
 
 // Why something could not be written, and so nothing more is.
-fn failed(l: Listed, what: &[u8]) -> Listed {
-    os::fail(what);
-    say(b"salvage: broken off: the file of --out may have a record more, or a part of one\n");
+fn failed(sys: &mut System, l: Listed, what: &[u8]) -> Listed {
+    sys.fail(what);
+    say(
+        sys,
+        b"salvage: broken off: the file of --out may have a record more, or a part of one\n",
+    );
     let mut m = l;
     m.good = false;
     m
 }
 
 // The line of a stretch, by one write; whether it was written.
-fn write_line(word: &[u8], start: u64, n: u64) -> bool {
+fn write_line(sys: &mut System, word: &[u8], start: u64, n: u64) -> bool {
     let mut line = [0u8; 64];
     let a = put_bytes(&mut line, 0, word);
     let b = put_decimal(&mut line, a, start);
@@ -36,17 +40,17 @@ fn write_line(word: &[u8], start: u64, n: u64) -> bool {
     let d = put_decimal(&mut line, c, n);
     let e = put_byte(&mut line, d, 10);
     let k = bytes_of(&line, e);
-    io::write_all(libc::STDOUT_FILENO, &line[..k])
+    sys.write_all(system::OUTPUT, &line[..k])
 }
 
 // Lists what is skipped in front of the walk's place, if anything is.
-pub fn list_skipped(l: Listed, w: Walk) -> Listed {
+pub fn list_skipped(sys: &mut System, l: Listed, w: Walk) -> Listed {
     if w.from >= w.place {
         return l;
     }
     let n = w.place - w.from;
-    if !write_line(b"skipped ", w.from, n) {
-        return failed(l, b"salvage: writing the listing to standard output");
+    if !write_line(sys, b"skipped ", w.from, n) {
+        return failed(sys, l, b"salvage: writing the listing to standard output");
     }
     let mut m = l;
     m.stretches = plus(l.stretches, 1);
@@ -55,13 +59,13 @@ pub fn list_skipped(l: Listed, w: Walk) -> Listed {
 }
 
 // The record that stands at the walk's place: written to its file, and then listed.
-fn keep_record(l: Listed, w: Walk, fd: i32, record: &[u8]) -> Listed {
-    if !io::write_all(fd, record) {
-        return failed(l, b"salvage: writing the records to the file of --out");
+fn keep_record(sys: &mut System, l: Listed, w: Walk, fd: i32, record: &[u8]) -> Listed {
+    if !sys.write_all(fd, record) {
+        return failed(sys, l, b"salvage: writing the records to the file of --out");
     }
     let n = record.len() as u64;
-    if !write_line(b"kept ", w.place, n) {
-        return failed(l, b"salvage: writing the listing to standard output");
+    if !write_line(sys, b"kept ", w.place, n) {
+        return failed(sys, l, b"salvage: writing the listing to standard output");
     }
     let mut m = l;
     m.records = plus(l.records, 1);
@@ -70,34 +74,34 @@ fn keep_record(l: Listed, w: Walk, fd: i32, record: &[u8]) -> Listed {
 }
 
 // What is skipped in front of a record, and the record.
-pub fn keep(l: Listed, w: Walk, fd: i32, record: &[u8]) -> Listed {
-    let before = list_skipped(l, w);
+pub fn keep(sys: &mut System, l: Listed, w: Walk, fd: i32, record: &[u8]) -> Listed {
+    let before = list_skipped(sys, l, w);
     if before.good {
-        return keep_record(before, w, fd, record);
+        return keep_record(sys, before, w, fd, record);
     }
     before
 }
 
 // A number, with its noun for one and for any other number.
-pub fn say_count(n: u64, one: &[u8], many: &[u8]) {
-    io::print_decimal(libc::STDERR_FILENO, n);
+pub fn say_count(sys: &mut System, n: u64, one: &[u8], many: &[u8]) {
+    sys.print_decimal(system::ERROR, n);
     if n == 1 {
-        say(one);
+        say(sys, one);
     } else {
-        say(many);
+        say(sys, many);
     }
 }
 
 // What was kept and skipped, at the end.
-pub fn tell_end(l: Listed) {
-    say(b"salvage: kept ");
-    say_count(l.records, b" record, ", b" records, ");
-    say_count(l.kept, b" byte; ", b" bytes; ");
+pub fn tell_end(sys: &mut System, l: Listed) {
+    say(sys, b"salvage: kept ");
+    say_count(sys, l.records, b" record, ", b" records, ");
+    say_count(sys, l.kept, b" byte; ", b" bytes; ");
     if l.stretches == 0 {
-        say(b"nothing skipped\n");
+        say(sys, b"nothing skipped\n");
         return;
     }
-    say(b"skipped ");
-    say_count(l.stretches, b" stretch, ", b" stretches, ");
-    say_count(l.skipped, b" byte\n", b" bytes\n");
+    say(sys, b"skipped ");
+    say_count(sys, l.stretches, b" stretch, ", b" stretches, ");
+    say_count(sys, l.skipped, b" byte\n", b" bytes\n");
 }

@@ -8,11 +8,12 @@ mod progress;
 mod run;
 mod words;
 
+use system::System;
 use words::Words;
 
-fn help() -> bool {
-    io::write_all(
-        libc::STDOUT_FILENO,
+fn help(sys: &mut System) -> bool {
+    sys.write_all(
+        system::OUTPUT,
         b"salvage: the good records of a damaged pass log.
 
   salvage FILE --out FILE
@@ -54,23 +55,25 @@ word was bad or missing.
 }
 
 // What the words ask for, and the status that comes of it.
-fn status_of(w: Words) -> u64 {
+fn status_of(sys: &mut System, w: Words) -> u64 {
     let common = w.common;
     if !common.good {
         return 2;
     }
     if common.help {
-        return if help() { 0 } else { 1 };
+        return if help(sys) { 0 } else { 1 };
     }
-    let f = files::open_files(w);
+    let f = files::open_files(sys, w);
     if !f.good {
         return 1;
     }
-    if run::salvage(f) { 0 } else { 1 }
+    if run::salvage(sys, f) { 0 } else { 1 }
 }
 
-fn main() {
-    let w = words::read_words();
-    let status = status_of(w);
-    files::write_status(w, status);
+fn main(rt: HostRuntime) {
+    let mut system = System::new(rt);
+    let sys = &mut system;
+    let w = words::read_words(sys);
+    let status = status_of(sys, w);
+    files::write_status(sys, w, status);
 }

@@ -8,6 +8,7 @@ use crate::listing::{Listed, keep, list_skipped, say, say_count, tell_end};
 use crate::progress::{Clock, clock_now, ticked};
 use log_parts::{Part, Walk, after, more, passed};
 use log_salvage::{Stretch, next_stretch};
+use system::System;
 use tally::plus;
 
 #[derive(Clone, Copy)]
@@ -19,7 +20,7 @@ pub struct Run {
     pub going: bool,
 }
 
-fn first_run() -> Run
+fn first_run(sys: &mut System) -> Run
     ensures { (result.part.at ≡ 0) × (result.part.end ≡ 0) }
 {
     Run {
@@ -37,26 +38,27 @@ fn first_run() -> Run
             skipped: 0,
             good: true,
         },
-        clock: clock_now(),
+        clock: clock_now(sys),
         going: true,
     }
 }
 
 // Says so where a read failed, and how many bytes were read before.
-fn tell_read(p: Part, w: Walk) {
+fn tell_read(sys: &mut System, p: Part, w: Walk) {
     if p.failed {
-        say(b"salvage: ");
+        say(sys, b"salvage: ");
         say_count(
+            sys,
             plus(w.place, p.end as u64),
             b" byte was read of the log and is",
             b" bytes were read of the log and are",
         );
-        os::fail(b" taken for the whole; reading on failed");
+        sys.fail(b" taken for the whole; reading on failed");
     }
 }
 
 // The log goes on: more of it is read. Only this crate calls this function.
-fn read_on(r: Run, f: Files, buf: &mut [u8]) -> Run
+fn read_on(sys: &mut System, r: Run, f: Files, buf: &mut [u8]) -> Run
     requires { Inside r.part buf.old × (r.part.end - r.part.at < 71) × (71 ≤ length buf.old) }
     ensures walk_value { (result.walk ≡ r.walk) × Inside result.part buf.new }
     ensures follows { Follows 0 r.part buf.old result.part buf.new }
@@ -64,9 +66,9 @@ fn read_on(r: Run, f: Files, buf: &mut [u8]) -> Run
     let walk = r.walk;
     let listed = r.listed;
     let clock = r.clock;
-    let part = more(r.part, f.input, buf);
-    tell_read(part, walk);
-    let clock = ticked(clock, walk.place, f.size, listed.records);
+    let part = more(sys, r.part, f.input, buf);
+    tell_read(sys, part, walk);
+    let clock = ticked(sys, clock, walk.place, f.size, listed.records);
     Run {
         walk,
         part,
@@ -77,13 +79,13 @@ fn read_on(r: Run, f: Files, buf: &mut [u8]) -> Run
 }
 
 // The log is over: what is skipped before its end is listed.
-fn ended(r: Run) -> Run
+fn ended(sys: &mut System, r: Run) -> Run
     ensures { (result.walk ≡ r.walk) × (result.part ≡ r.part) }
 {
     let walk = r.walk;
     let part = r.part;
     let clock = r.clock;
-    let listed = list_skipped(r.listed, walk);
+    let listed = list_skipped(sys, r.listed, walk);
     Run {
         walk,
         part,
@@ -94,7 +96,7 @@ fn ended(r: Run) -> Run
 }
 
 // One stretch, or more of the log. Only this crate calls this function.
-fn turn(r: Run, f: Files, buf: &mut [u8]) -> Run
+fn turn(sys: &mut System, r: Run, f: Files, buf: &mut [u8]) -> Run
     requires { Inside r.part buf.old × (71 ≤ length buf.old) }
     ensures inside { Inside result.part buf.new }
     ensures turned { Turned (stretch_at (take r.part.end buf.old) r.part.at r.part.last) r.walk r.part buf.old result.walk result.part buf.new }
@@ -110,7 +112,7 @@ fn turn(r: Run, f: Files, buf: &mut [u8]) -> Run
         Stretch::Kept(_, n) => Run {
             walk: after(walk, s),
             part: passed(part, n),
-            listed: keep(listed, walk, f.output, &buf[at..at + n]),
+            listed: keep(sys, listed, walk, f.output, &buf[at..at + n]),
             clock,
             going: true,
         },
@@ -123,9 +125,9 @@ fn turn(r: Run, f: Files, buf: &mut [u8]) -> Run
         },
         Stretch::End => {
             if part.last {
-                return ended(r);
+                return ended(sys, r);
             }
-            read_on(r, f, buf)
+            read_on(sys, r, f, buf)
         }
     }
 }
@@ -136,34 +138,35 @@ fn is_going(r: Run) -> bool {
 }
 
 // Nothing says that the log ends, so the turns are counted down from a number that no log uses up.
-fn turns(first: Run, f: Files, buf: &mut [u8]) -> Run
+fn turns(sys: &mut System, first: Run, f: Files, buf: &mut [u8]) -> Run
     requires { Inside first.part buf.old × (71 ≤ length buf.old) }
 {
     let mut r = first;
     let mut left = u64::MAX;
     while left > 0 && is_going(r) {
-        r = turn(r, f, buf);
+        r = turn(sys, r, f, buf);
         left -= 1;
     }
     r
 }
 
 // The file of --out is closed, or it is told why not.
-fn is_closed(fd: i32) -> bool {
-    let closed = libc::close(fd) == 0;
+fn is_closed(sys: &mut System, fd: i32) -> bool {
+    let closed = sys.close(fd) == 0;
     if !closed {
-        os::fail(b"salvage: closing the file of --out");
+        sys.fail(b"salvage: closing the file of --out");
     }
     closed
 }
 
 // Salvages the log into its file; whether the log was read to its end and all was written.
-pub fn salvage(f: Files) -> bool {
+pub fn salvage(sys: &mut System, f: Files) -> bool {
     let mut buf = io::large_buffer();
-    let r = turns(first_run(), f, &mut buf);
+    let first = first_run(sys);
+    let r = turns(sys, first, f, &mut buf);
     let part = r.part;
     let listed = r.listed;
-    let closed = is_closed(f.output);
-    tell_end(listed);
+    let closed = is_closed(sys, f.output);
+    tell_end(sys, listed);
     listed.good & closed & !part.failed & !r.going
 }

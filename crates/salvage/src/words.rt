@@ -1,5 +1,6 @@
 // The words of the command line, one after the other.
 use programs::Common;
+use system::System;
 
 // The place of the log's name, 0 where none is given, and the other words.
 #[derive(Clone, Copy)]
@@ -15,15 +16,15 @@ fn with_common(w: Words, common: Common) -> Words {
 }
 
 // Says what is wrong with a word.
-fn bad(w: Words, what: &[u8], word: &[u8]) -> Words {
+fn bad(sys: &mut System, w: Words, what: &[u8], word: &[u8]) -> Words {
     let common = w.common;
-    with_common(w, programs::bad(common, b"salvage", what, word))
+    with_common(w, programs::bad(sys, common, b"salvage", what, word))
 }
 
 // The log's name, at the place `at`.
-fn with_log(w: Words, at: usize, word: &[u8]) -> Words {
+fn with_log(sys: &mut System, w: Words, at: usize, word: &[u8]) -> Words {
     if w.file > 0 {
-        return bad(w, b": one word too many: `", word);
+        return bad(sys, w, b": one word too many: `", word);
     }
     if programs::is_file(word) | check::same(word, b"-") {
         let mut s = w;
@@ -31,35 +32,37 @@ fn with_log(w: Words, at: usize, word: &[u8]) -> Words {
         return s;
     }
     bad(
+        sys,
         w,
         b": wanted is a file's name of up to 4096 bytes (./-x for -x; - is standard input), --out, --status or --help, and not `",
         word,
     )
 }
 
-fn with_word(w: Words, at: usize, word: &[u8]) -> Words {
+fn with_word(sys: &mut System, w: Words, at: usize, word: &[u8]) -> Words {
     let common = w.common;
     if programs::is_common(common, word) {
-        return with_common(w, programs::with_word(common, b"salvage", at, word));
+        return with_common(w, programs::with_word(sys, common, b"salvage", at, word));
     }
-    with_log(w, at, word)
+    with_log(sys, w, at, word)
 }
 
 // A word of more than 4,096 bytes is read as an empty one, which is bad wherever it stands.
-fn with_next(w: Words, at: usize) -> Words {
+fn with_next(sys: &mut System, w: Words, at: usize) -> Words {
     let common = w.common;
     if !common.good {
         return w;
     }
     let mut word = io::buffer();
-    let n = os::arg(at, &mut word);
-    with_word(w, at, &word[..n])
+    let n = sys.arg(at, &mut word);
+    with_word(sys, w, at, &word[..n])
 }
 
 // Whether nothing is missing behind the last word.
-fn complete(w: Words) -> Words {
+fn complete(sys: &mut System, w: Words) -> Words {
     let common = w.common;
     let whole = programs::complete(
+        sys,
         common,
         w.file == 0,
         b"salvage",
@@ -70,13 +73,13 @@ fn complete(w: Words) -> Words {
 }
 
 // All the words. What is wrong with them is told.
-pub fn read_words() -> Words {
+pub fn read_words(sys: &mut System) -> Words {
     let mut w = Words {
         file: 0,
         common: programs::no_words(),
     };
-    for at in 1..os::arg_count() {
-        w = with_next(w, at);
+    for at in 1..sys.arg_count() {
+        w = with_next(sys, w, at);
     }
-    complete(w)
+    complete(sys, w)
 }

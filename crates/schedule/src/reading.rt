@@ -3,6 +3,7 @@ ghost use Rattle.std.specs.Prelude.{◌+◌, ◌≤◌, length};
 
 use crate::entries::{Entry, entry_of};
 use samples::least;
+use system::System;
 
 // Where the reading stands: the bytes at `at` up to `end` of the buffer are not yet used; `line` is the number
 // of the line read last; `ended` says that there is no more to read, `failed` that a read failed.
@@ -90,22 +91,21 @@ fn to_front(bytes: &mut [u8], at: usize, held: usize)
 }
 
 // One read behind the bytes that are held.
-fn read_on(fd: i32, bytes: &mut [u8], held: usize, line: u64) -> Cursor
+fn read_on(sys: &mut System, fd: i32, bytes: &mut [u8], held: usize, line: u64) -> Cursor
     requires { held ≤ length bytes.old }
 {
-    let got = libc::read(fd, &mut bytes[held..]);
-    let n = io::count(got, &bytes[held..]);
+    let got = sys.read(fd, &mut bytes[held..]);
     Cursor {
         at: 0,
-        end: held + n,
+        end: held + got.count,
         line,
-        ended: got <= 0,
-        failed: got < 0,
+        ended: got.count == 0,
+        failed: got.failed,
     }
 }
 
 // No line's end is in the buffer: more is read, if a line may be so long.
-fn more(fd: i32, bytes: &mut [u8], c: Cursor) -> Step
+fn more(sys: &mut System, fd: i32, bytes: &mut [u8], c: Cursor) -> Step
     requires { (c.at ≤ c.end) × (c.end ≤ length bytes.old) }
 {
     let held = c.end - c.at;
@@ -113,7 +113,7 @@ fn more(fd: i32, bytes: &mut [u8], c: Cursor) -> Step
         return told(Entry::Bad, c, c.end, true);
     }
     to_front(bytes, c.at, held);
-    let cursor = read_on(fd, bytes, held, c.line);
+    let cursor = read_on(sys, fd, bytes, held, c.line);
     Step {
         next: Next::Found(Entry::Blank),
         cursor,
@@ -140,7 +140,7 @@ fn last_read(bytes: &[u8], c: Cursor) -> Step
 }
 
 // One line, or one read; a blank entry where there is nothing to tell yet.
-fn turn(fd: i32, bytes: &mut [u8], c: Cursor) -> Step {
+fn turn(sys: &mut System, fd: i32, bytes: &mut [u8], c: Cursor) -> Step {
     let k = kept(c, bytes.len());
     let at = k.at;
     let end = k.end;
@@ -151,7 +151,7 @@ fn turn(fd: i32, bytes: &mut [u8], c: Cursor) -> Step {
     if k.ended {
         return last_read(bytes, k);
     }
-    more(fd, bytes, k)
+    more(sys, fd, bytes, k)
 }
 
 // Whether there is nothing to tell yet.
@@ -168,7 +168,7 @@ fn is_open(s: Step) -> bool {
 
 // The next change of the plan. Nothing says that a file ends, so the turns are counted down from a number that
 // no run uses up.
-pub fn next_entry(fd: i32, bytes: &mut [u8], c: Cursor) -> Step {
+pub fn next_entry(sys: &mut System, fd: i32, bytes: &mut [u8], c: Cursor) -> Step {
     let mut s = Step {
         next: Next::Found(Entry::Blank),
         cursor: c,
@@ -176,7 +176,7 @@ pub fn next_entry(fd: i32, bytes: &mut [u8], c: Cursor) -> Step {
     let mut turns = u64::MAX;
     while turns > 0 && is_open(s) {
         let cursor = s.cursor;
-        s = turn(fd, bytes, cursor);
+        s = turn(sys, fd, bytes, cursor);
         turns -= 1;
     }
     s

@@ -2,6 +2,7 @@
 use crate::reader::{Input, Word, no_word, read_word};
 use crate::values::Values;
 use crate::words::{Command, begins_sinc, command_of, kinds_of, value_of};
+use system::System;
 use text::Parsed;
 
 // A line that is being read: the name of its command, the kinds of the words that are still to come,
@@ -79,6 +80,7 @@ fn with_log(line: Line, word: Word, ends: &mut [f64]) -> Line {
 // One word more; the samples of a block's output go to an area of their own. The other area takes what is
 // too long for one.
 fn read_next(
+    sys: &mut System,
     line: Line,
     buf: &mut [u8],
     input: &mut [f64],
@@ -91,12 +93,12 @@ fn read_next(
     let before = if kind == 15 { values[1] } else { 0 };
     let word = no_word(from, kind >= 14, before as usize);
     if kind == 15 {
-        return with_log(line, read_word(buf, output, input, bytes, word), input);
+        return with_log(line, read_word(sys, buf, output, input, bytes, word), input);
     }
     if kind == 9 {
-        return with(line, read_word(buf, output, input, bytes, word));
+        return with(line, read_word(sys, buf, output, input, bytes, word));
     }
-    with(line, read_word(buf, input, output, bytes, word))
+    with(line, read_word(sys, buf, input, output, bytes, word))
 }
 
 // The line after its first word. It is none where that is empty and nothing can follow.
@@ -117,17 +119,18 @@ fn begun(word: Word) -> Line {
 
 // The next line, read to its end: a last line without a newline is one too.
 pub fn read_line(
+    sys: &mut System,
     before: Input,
     buf: &mut [u8],
     input: &mut [f64],
     output: &mut [f64],
     bytes: &mut [u8],
 ) -> Line {
-    let mut line = begun(read_word(buf, input, output, bytes, no_word(before, false, 0)));
+    let mut line = begun(read_word(sys, buf, input, output, bytes, no_word(before, false, 0)));
     let mut more = line.more;
     let mut turns = u64::MAX;
     while turns > 0 && more {
-        line = read_next(line, buf, input, output, bytes);
+        line = read_next(sys, line, buf, input, output, bytes);
         more = line.more;
         turns -= 1;
     }

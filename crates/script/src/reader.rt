@@ -1,6 +1,7 @@
 // Standard input, byte by byte, through a buffer that the caller lends; and its words.
 use crate::bytes::{Bytes, begin_bytes, bytes_step};
 use crate::names::name_step;
+use system::System;
 use text::{Area, Run};
 
 // The bytes of the buffer from `at` to `end` are still to be read; `open` says that there may be more
@@ -36,15 +37,15 @@ pub fn start() -> Input {
 }
 
 // Sees to it that there is a byte to look at, unless the input is over.
-fn filled(buf: &mut [u8], input: Input) -> Input {
+fn filled(sys: &mut System, buf: &mut [u8], input: Input) -> Input {
     if input.at < input.end {
         return input;
     }
     if !input.open {
         return input;
     }
-    let got = libc::read(libc::STDIN_FILENO, buf);
-    let n = io::count(got, buf);
+    let got = sys.read(system::INPUT, buf);
+    let n = got.count;
     Input {
         at: 0,
         end: n,
@@ -68,8 +69,8 @@ fn passed(buf: &[u8], input: Input) -> Input {
 }
 
 // Reads a byte.
-pub fn read_byte(buf: &mut [u8], input: Input) -> Input {
-    let here = filled(buf, input);
+pub fn read_byte(sys: &mut System, buf: &mut [u8], input: Input) -> Input {
+    let here = filled(sys, buf, input);
     passed(buf, here)
 }
 
@@ -161,6 +162,7 @@ fn word_step(
 
 // One byte more, which may end the word.
 fn word_next(
+    sys: &mut System,
     buf: &mut [u8],
     area: &mut [f64],
     next: &mut [f64],
@@ -168,7 +170,7 @@ fn word_next(
     word: Word,
 ) -> Word {
     let before = word.input;
-    let input = read_byte(buf, before);
+    let input = read_byte(sys, buf, before);
     if ends_word(input.byte) {
         let mut then = word;
         then.input = input;
@@ -184,6 +186,7 @@ fn is_going(word: Word) -> bool {
 
 // Nothing says that a word ends, so the turns are counted down from a number that no run uses up.
 pub fn read_word(
+    sys: &mut System,
     buf: &mut [u8],
     area: &mut [f64],
     next: &mut [f64],
@@ -194,7 +197,7 @@ pub fn read_word(
     let mut going = true;
     let mut turns = u64::MAX;
     while turns > 0 && going {
-        word = word_next(buf, area, next, bytes, word);
+        word = word_next(sys, buf, area, next, bytes, word);
         going = is_going(word);
         turns -= 1;
     }

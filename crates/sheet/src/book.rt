@@ -6,6 +6,7 @@ use drift_picture::{Chart, with_block};
 use log_parts::Walk;
 use log_records::{Read, read_record};
 use sheets::take_record;
+use system::System;
 use tally::plus;
 
 // How many records of the log were taken, and how many stretches were skipped, of how many bytes.
@@ -51,21 +52,29 @@ pub fn with_skipped(b: Book, w: Walk) -> Book {
 }
 
 // Says how far the log is, where that is due.
-pub fn with_tick(b: Book, log: Log, w: Walk) -> Book {
+pub fn with_tick(sys: &mut System, b: Book, log: Log, w: Walk) -> Book {
     let seen = b.seen;
-    let clock = ticked(b.clock, log, w.place, seen.records);
+    let clock = ticked(sys, b.clock, log, w.place, seen.records);
     let mut c = b;
     c.clock = clock;
     c
 }
 
 // What a record of that kind and payload does to the sheet, told where there is something to tell.
-fn with_call(b: Book, log: Log, w: Walk, kind: u8, payload: &[u8], points: &mut [u64]) -> Book {
+fn with_call(
+    sys: &mut System,
+    b: Book,
+    log: Log,
+    w: Walk,
+    kind: u8,
+    payload: &[u8],
+    points: &mut [u64],
+) -> Book {
     let before = b.page;
     let turn = take_record(before.sheet, kind, payload);
     let sheet = turn.sheet;
     let told = turn.told;
-    let mut page = with_told(before, log, told, w.place, false);
+    let mut page = with_told(sys, before, log, told, w.place, false);
     page.sheet = sheet;
     page.reads = turn.reads;
     let mut c = b;
@@ -80,6 +89,7 @@ fn with_call(b: Book, log: Log, w: Walk, kind: u8, payload: &[u8], points: &mut 
 
 // The payload is the n bytes of the record from the place `from` on.
 fn with_payload(
+    sys: &mut System,
     b: Book,
     log: Log,
     w: Walk,
@@ -95,17 +105,26 @@ fn with_payload(
     if n > record.len() - from {
         return b;
     }
-    with_call(b, log, w, kind, &record[from..from + n], points)
+    with_call(sys, b, log, w, kind, &record[from..from + n], points)
 }
 
 // The record that these bytes are, at the walk's place, and what is skipped in front of it.
-pub fn with_record(b: Book, log: Log, w: Walk, record: &[u8], points: &mut [u64]) -> Book {
+pub fn with_record(
+    sys: &mut System,
+    b: Book,
+    log: Log,
+    w: Walk,
+    record: &[u8],
+    points: &mut [u64],
+) -> Book {
     let mut seen = counted(b.seen, w);
     seen.records = plus(seen.records, 1);
     let mut c = b;
     c.seen = seen;
     match read_record(record, 0) {
-        Read::Record(kind, from, n, _) => with_payload(c, log, w, kind, record, from, n, points),
+        Read::Record(kind, from, n, _) => with_payload(
+            sys, c, log, w, kind, record, from, n, points,
+        ),
         Read::None => c,
     }
 }

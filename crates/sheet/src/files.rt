@@ -2,6 +2,7 @@
 use crate::say::say;
 use crate::words::{Words, is_log};
 use file_facts::{Facts, is_same};
+use system::System;
 
 // A log: the place of its name, its descriptor, below 0 where it could not be opened, and its size where it is
 // a regular file, else 0.
@@ -13,17 +14,17 @@ pub struct Log {
 }
 
 // Opens the file at a name; `-` is standard input.
-fn open_word(at: usize) -> i32 {
+fn open_word(sys: &mut System, at: usize) -> i32 {
     let mut word = io::buffer();
-    let n = os::arg(at, &mut word);
+    let n = sys.arg(at, &mut word);
     if check::same(&word[..n], b"-") {
-        return libc::STDIN_FILENO;
+        return system::INPUT;
     }
-    let fd = os::open_read(&word[..n]);
+    let fd = sys.open_read(&word[..n]);
     if fd < 0 {
-        say(b"sheet: cannot open ");
-        os::fail(&word[..n]);
-        say(b"sheet: that log is left out of the sheet\n");
+        say(sys, b"sheet: cannot open ");
+        sys.fail(&word[..n]);
+        say(sys, b"sheet: that log is left out of the sheet\n");
     }
     fd
 }
@@ -36,119 +37,123 @@ fn size_of(log: Facts) -> u64 {
 }
 
 // Opens a log. Where it cannot be opened, that is told.
-pub fn open_log(word: usize) -> Log {
-    programs::fill_low();
-    let fd = open_word(word);
+pub fn open_log(sys: &mut System, word: usize) -> Log {
+    programs::fill_low(sys);
+    let fd = open_word(sys, word);
     Log {
         word,
         fd,
-        size: size_of(file_facts::facts_of(fd)),
+        size: size_of(file_facts::facts_of(sys, fd)),
     }
 }
 
-pub fn close_log(log: Log) {
+pub fn close_log(sys: &mut System, log: Log) {
     if log.fd > 2 {
-        libc::close(log.fd);
+        sys.close(log.fd);
     }
 }
 
 // Opens a file to be written; what it held is gone.
-pub fn open_out(at: usize) -> i32 {
-    programs::fill_low();
+pub fn open_out(sys: &mut System, at: usize) -> i32 {
+    programs::fill_low(sys);
     let mut word = io::buffer();
-    let n = os::arg(at, &mut word);
-    let fd = os::open_overwrite(&word[..n]);
+    let n = sys.arg(at, &mut word);
+    let fd = sys.open_overwrite(&word[..n]);
     if fd < 0 {
-        say(b"sheet: cannot open ");
-        os::fail(&word[..n]);
+        say(sys, b"sheet: cannot open ");
+        sys.fail(&word[..n]);
     }
     fd
 }
 
 // What the system tells of the file that the word at the place `at` names: nothing where there is no word.
-fn facts_in(at: usize) -> Facts {
+fn facts_in(sys: &mut System, at: usize) -> Facts {
     if at == 0 {
-        return file_facts::facts_of(-1);
+        return file_facts::facts_of(sys, -1);
     }
     let mut word = io::buffer();
-    let n = os::arg(at, &mut word);
+    let n = sys.arg(at, &mut word);
     if check::same(&word[..n], b"-") {
-        return file_facts::facts_of(libc::STDIN_FILENO);
+        return file_facts::facts_of(sys, system::INPUT);
     }
-    file_facts::facts_at(&word[..n])
+    file_facts::facts_at(sys, &word[..n])
 }
 
 // Whether two words are one name, of a file that may not be there yet.
-fn is_same_name(a: usize, b: usize) -> bool {
+fn is_same_name(sys: &mut System, a: usize, b: usize) -> bool {
     if (a == 0) | (b == 0) {
         return false;
     }
     let mut first = io::buffer();
     let mut second = io::buffer();
-    let n = os::arg(a, &mut first);
-    let m = os::arg(b, &mut second);
+    let n = sys.arg(a, &mut first);
+    let m = sys.arg(b, &mut second);
     check::same(&first[..n], &second[..m])
 }
 
 // Whether two words name one file.
-fn is_one(a: usize, b: usize) -> bool {
-    is_same(facts_in(a), facts_in(b)) | is_same_name(a, b)
+fn is_one(sys: &mut System, a: usize, b: usize) -> bool {
+    is_same(facts_in(sys, a), facts_in(sys, b)) | is_same_name(sys, a, b)
 }
 
 // Says of the picture's file what else it is; whether it is that.
-fn is_told(same: bool, what: &[u8]) -> bool {
+fn is_told(sys: &mut System, same: bool, what: &[u8]) -> bool {
     if same {
-        say(b"sheet: --picture names ");
-        say(what);
-        say(b": nothing was written\n");
+        say(sys, b"sheet: --picture names ");
+        say(sys, what);
+        say(sys, b": nothing was written\n");
     }
     same
 }
 
 // Whether the file is one of the logs.
-fn is_some_log(w: Words, file: usize) -> bool {
+fn is_some_log(sys: &mut System, w: Words, file: usize) -> bool {
     let mut found = false;
-    for at in 1..os::arg_count() {
-        found = found | (is_log(w, at) & is_one(file, at));
+    for at in 1..sys.arg_count() {
+        found = found | (is_log(sys, w, at) & is_one(sys, file, at));
     }
     found
 }
 
-fn is_output(file: usize) -> bool {
-    file_facts::same_file(facts_in(file), file_facts::facts_of(libc::STDOUT_FILENO))
+fn is_output(sys: &mut System, file: usize) -> bool {
+    file_facts::same_file(
+        facts_in(sys, file),
+        file_facts::facts_of(sys, system::OUTPUT),
+    )
 }
 
 // Whether the picture's file is another file of the run, before any is opened; it is told.
-pub fn has_clash(w: Words) -> bool {
+pub fn has_clash(sys: &mut System, w: Words) -> bool {
     let common = w.common;
     if w.picture == 0 {
         return false;
     }
-    let a = is_told(is_some_log(w, w.picture), b"a log");
-    let b = is_told(
-        is_output(w.picture),
-        b"standard output, where the sheet goes",
-    );
-    let c = is_told(is_one(w.picture, common.status), b"the file of --status");
+    let log = is_some_log(sys, w, w.picture);
+    let a = is_told(sys, log, b"a log");
+    let output = is_output(sys, w.picture);
+    let b = is_told(sys, output, b"standard output, where the sheet goes");
+    let status = is_one(sys, w.picture, common.status);
+    let c = is_told(sys, status, b"the file of --status");
     a | b | c
 }
 
 // Writes the status and a line feed into the file that --status names, if one is named and it is no other
 // file of the run.
-pub fn write_status(w: Words, status: u64) {
+pub fn write_status(sys: &mut System, w: Words, status: u64) {
     let common = w.common;
     if common.status == 0 {
         return;
     }
-    programs::fill_low();
-    let taken = is_some_log(w, common.status) | is_one(w.picture, common.status);
+    programs::fill_low(sys);
+    let taken = is_some_log(sys, w, common.status) | is_one(sys, w.picture, common.status);
     if taken
         | is_same(
-            facts_in(common.status),
-            file_facts::facts_of(libc::STDOUT_FILENO),
+            facts_in(sys, common.status),
+            file_facts::facts_of(sys, system::OUTPUT),
         )
     {
         return;
     }
-    programs::put_status(open_out(common.status), status);
+    let fd = open_out(sys, common.status);
+    programs::put_status(sys, fd, status);
 }

@@ -10,21 +10,26 @@ use crate::words::{Words, is_log};
 use drift_picture::Chart;
 use log_parts::Part;
 use sheets::end_log;
+use system::System;
 
 // Says what was skipped of a log, if anything was.
-fn tell_skipped(log: Log, s: Seen) {
+fn tell_skipped(sys: &mut System, log: Log, s: Seen) {
     if s.stretches > 0 {
-        say_word(b"sheet: ", log.word, b": skipped ");
-        say_count(s.skipped, b" byte in ", b" bytes in ");
-        say_count(s.stretches, b" stretch", b" stretches");
-        say(b" where no good record stands: they are no calls, and calls may be missing\n");
+        say_word(sys, b"sheet: ", log.word, b": skipped ");
+        say_count(sys, s.skipped, b" byte in ", b" bytes in ");
+        say_count(sys, s.stretches, b" stretch", b" stretches");
+        say(
+            sys,
+            b" where no good record stands: they are no calls, and calls may be missing\n",
+        );
     }
 }
 
 // Says so where a log has no line.
-fn tell_none(log: Log, p: Page) {
+fn tell_none(sys: &mut System, log: Log, p: Page) {
     if p.good & (p.lines == 0) {
         say_word(
+            sys,
             b"sheet: ",
             log.word,
             b": no line: it has no construction, reset or block\n",
@@ -33,27 +38,27 @@ fn tell_none(log: Log, p: Page) {
 }
 
 // The end of a log: its line, where one is open, is told.
-fn with_end(p: Page, log: Log, part: Part, place: u64) -> Page {
+fn with_end(sys: &mut System, p: Page, log: Log, part: Part, place: u64) -> Page {
     let turn = end_log(p.sheet);
     let sheet = turn.sheet;
     let told = turn.told;
     let mut q = p;
     if p.good {
-        q = with_told(p, log, told, place, part.failed);
+        q = with_told(sys, p, log, told, place, part.failed);
     }
     q.sheet = sheet;
     q
 }
 
 // What is told of a log behind its last record.
-fn with_log_end(r: Run, log: Log) -> Book {
+fn with_log_end(sys: &mut System, r: Run, log: Log) -> Book {
     let part = r.part;
     let walk = r.walk;
     let book = r.book;
     let seen = book.seen;
-    let page = with_end(book.page, log, part, walk.place);
-    tell_skipped(log, seen);
-    tell_none(log, page);
+    let page = with_end(sys, book.page, log, part, walk.place);
+    tell_skipped(sys, log, seen);
+    tell_none(sys, log, page);
     let mut b = book;
     if part.failed | (seen.stretches > 0) {
         b.page = not_whole(page);
@@ -64,64 +69,83 @@ fn with_log_end(r: Run, log: Log) -> Book {
 }
 
 // One log. One that cannot be opened is left out.
-fn with_log(b: Book, word: usize, buf: &mut [u8; 65536], points: &mut [u64]) -> Book {
+fn with_log(
+    sys: &mut System,
+    b: Book,
+    word: usize,
+    buf: &mut [u8; 65536],
+    points: &mut [u64],
+) -> Book {
     let page = b.page;
     let mut c = b;
-    let log = open_log(word);
+    let log = open_log(sys, word);
     if log.fd < 0 {
         c.page = not_whole(page);
         return c;
     }
     c.page = turned_over(page);
     c.seen = nothing_seen();
-    let r = turns(first_run(c), log, buf, points);
-    close_log(log);
-    with_log_end(r, log)
+    let r = turns(sys, first_run(c), log, buf, points);
+    close_log(sys, log);
+    with_log_end(sys, r, log)
 }
 
 // The word at the place `at`, where it names a log and all was written so far.
-fn with_word(b: Book, w: Words, at: usize, buf: &mut [u8; 65536], points: &mut [u64]) -> Book {
+fn with_word(
+    sys: &mut System,
+    b: Book,
+    w: Words,
+    at: usize,
+    buf: &mut [u8; 65536],
+    points: &mut [u64],
+) -> Book {
     let p = b.page;
-    if p.good & is_log(w, at) {
-        return with_log(b, at, buf, points);
+    if p.good & is_log(sys, w, at) {
+        return with_log(sys, b, at, buf, points);
     }
     b
 }
 
-fn all_logs(w: Words, first: Book, buf: &mut [u8; 65536], points: &mut [u64]) -> Book {
+fn all_logs(
+    sys: &mut System,
+    w: Words,
+    first: Book,
+    buf: &mut [u8; 65536],
+    points: &mut [u64],
+) -> Book {
     let mut b = first;
-    for at in 1..os::arg_count() {
-        b = with_word(b, w, at, buf, points);
+    for at in 1..sys.arg_count() {
+        b = with_word(sys, b, w, at, buf, points);
     }
     b
 }
 
 // The total behind the last log.
-fn with_total(p: Page) -> Page {
+fn with_total(sys: &mut System, p: Page) -> Page {
     let sheet = p.sheet;
     let total = sheet.total;
     if !p.good {
         return p;
     }
     let mut q = p;
-    q.good = write_total(total, p.whole);
+    q.good = write_total(sys, total, p.whole);
     if !q.good {
-        os::fail(b"sheet: writing the total to standard output");
+        sys.fail(b"sheet: writing the total to standard output");
     }
     q
 }
 
 // Reads every log, and prints the sheet.
-pub fn read_logs(w: Words, chart: Chart, points: &mut [u64]) -> Book {
+pub fn read_logs(sys: &mut System, w: Words, chart: Chart, points: &mut [u64]) -> Book {
     let mut buf = io::large_buffer();
     let first = Book {
         page: new_page(),
         chart,
-        clock: clock_now(),
+        clock: clock_now(sys),
         seen: nothing_seen(),
     };
-    let b = all_logs(w, first, &mut buf, points);
-    let page = with_total(b.page);
+    let b = all_logs(sys, w, first, &mut buf, points);
+    let page = with_total(sys, b.page);
     let mut c = b;
     c.page = page;
     c

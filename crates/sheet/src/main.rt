@@ -13,11 +13,12 @@ mod run;
 mod say;
 mod words;
 
+use system::System;
 use words::Words;
 
-fn help() -> bool {
-    io::write_all(
-        libc::STDOUT_FILENO,
+fn help(sys: &mut System) -> bool {
+    sys.write_all(
+        system::OUTPUT,
         b"sheet: exact positions over pass logs.
 
   sheet LOG .. [--picture FILE.svg]
@@ -86,9 +87,9 @@ picture is a log, standard output or the --status file: then no file is written.
 }
 
 // Reads the logs and draws the picture, where one is asked for; whether all is well.
-fn is_well(w: Words) -> bool {
+fn is_well(sys: &mut System, w: Words) -> bool {
     let mut points = [0u64; drift_picture::ROOM];
-    let b = logs::read_logs(w, drift_picture::new_chart(w.picture > 0), &mut points);
+    let b = logs::read_logs(sys, w, drift_picture::new_chart(w.picture > 0), &mut points);
     let page = b.page;
     let chart = b.chart;
     let sheet = page.sheet;
@@ -97,27 +98,29 @@ fn is_well(w: Words) -> bool {
     if w.picture == 0 {
         return well;
     }
-    let drawn = picture::draw(w.picture, w.logs, total, chart, &mut points);
+    let drawn = picture::draw(sys, w.picture, w.logs, total, chart, &mut points);
     well & drawn
 }
 
 // What the words ask for, and the status that comes of it.
-fn status_of(w: Words) -> u64 {
+fn status_of(sys: &mut System, w: Words) -> u64 {
     let common = w.common;
     if !common.good {
         return 2;
     }
     if common.help {
-        return if help() { 0 } else { 1 };
+        return if help(sys) { 0 } else { 1 };
     }
-    if files::has_clash(w) {
+    if files::has_clash(sys, w) {
         return 2;
     }
-    if is_well(w) { 0 } else { 1 }
+    if is_well(sys, w) { 0 } else { 1 }
 }
 
-fn main() {
-    let w = words::read_words();
-    let status = status_of(w);
-    files::write_status(w, status);
+fn main(rt: HostRuntime) {
+    let mut system = System::new(rt);
+    let sys = &mut system;
+    let w = words::read_words(sys);
+    let status = status_of(sys, w);
+    files::write_status(sys, w, status);
 }

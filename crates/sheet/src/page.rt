@@ -3,6 +3,7 @@ use crate::files::Log;
 use crate::rows::{write_row, write_word};
 use lines::{End, Line, is_inside};
 use sheets::{Sheet, Told, new_sheet};
+use system::System;
 use tally::plus;
 
 // The sheet; how many lines of this log were told, its word alone counting as one; whether this log is read on,
@@ -55,9 +56,9 @@ fn is_call(end: End) -> bool {
 }
 
 // The page with one line more told, or why that could not be written.
-fn written(p: Page, done: bool, inside: bool, call: bool) -> Page {
+fn written(sys: &mut System, p: Page, done: bool, inside: bool, call: bool) -> Page {
     if !done {
-        os::fail(b"sheet: writing the sheet to standard output");
+        sys.fail(b"sheet: writing the sheet to standard output");
     }
     let mut q = p;
     q.lines = plus(p.lines, 1);
@@ -67,16 +68,19 @@ fn written(p: Page, done: bool, inside: bool, call: bool) -> Page {
     q
 }
 
-fn with_row(p: Page, log: Log, l: Line, end: End, place: u64, cut: bool) -> Page {
-    let done = write_row(log.word, plus(p.lines, 1), l, end, place, cut);
-    written(p, done, is_inside(l), is_call(end))
+fn with_row(sys: &mut System, p: Page, log: Log, l: Line, end: End, place: u64, cut: bool) -> Page {
+    let done = write_row(sys, log.word, plus(p.lines, 1), l, end, place, cut);
+    written(sys, p, done, is_inside(l), is_call(end))
 }
 
 // Tells what there is to tell of the record at the place, or of the log's end there.
-pub fn with_told(p: Page, log: Log, told: Told, place: u64, cut: bool) -> Page {
+pub fn with_told(sys: &mut System, p: Page, log: Log, told: Told, place: u64, cut: bool) -> Page {
     match told {
         Told::Quiet => p,
-        Told::Row(l, end) => with_row(p, log, l, end, place, cut),
-        Told::Word(end) => written(p, write_word(log.word, end, place), true, false),
+        Told::Row(l, end) => with_row(sys, p, log, l, end, place, cut),
+        Told::Word(end) => {
+            let done = write_word(sys, log.word, end, place);
+            written(sys, p, done, true, false)
+        }
     }
 }

@@ -4,35 +4,43 @@ use crate::say::say_word;
 use drift_picture::{Chart, finished, put_picture};
 use printer::bytes_of;
 use sheets::Total;
+use system::System;
 
 // Writes all of the text to the file, or leaves none of it there, and tells why; whether it was written.
-fn is_put(fd: i32, text: &[u8]) -> bool {
-    let all = io::write_all(fd, text);
+fn is_put(sys: &mut System, fd: i32, text: &[u8]) -> bool {
+    let all = sys.write_all(fd, text);
     if !all {
-        os::fail(b"sheet: writing the picture");
-        libc::ftruncate(fd, 0);
+        sys.fail(b"sheet: writing the picture");
+        sys.empty(fd);
     }
-    let closed = libc::close(fd) == 0;
+    let closed = sys.close(fd) == 0;
     if !closed {
-        os::fail(b"sheet: closing the picture");
+        sys.fail(b"sheet: closing the picture");
     }
     all & closed
 }
 
 // Writes the picture into the file that the word at the place `word` names. Where that fails, it is told.
-pub fn draw(word: usize, logs: usize, t: Total, c: Chart, points: &mut [u64]) -> bool {
+pub fn draw(
+    sys: &mut System,
+    word: usize,
+    logs: usize,
+    t: Total,
+    c: Chart,
+    points: &mut [u64],
+) -> bool {
     let d = finished(c, points);
     let mut text = io::large_buffer();
     let n = put_picture(&mut text, logs, t, points, d.count);
     let k = bytes_of(&text, n);
-    let fd = open_out(word);
+    let fd = open_out(sys, word);
     let done = if fd < 0 {
         false
     } else {
-        is_put(fd, &text[..k])
+        is_put(sys, fd, &text[..k])
     };
     if !done {
-        say_word(b"sheet: the picture ", word, b" was not written\n");
+        say_word(sys, b"sheet: the picture ", word, b" was not written\n");
     }
     done
 }

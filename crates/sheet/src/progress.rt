@@ -1,6 +1,7 @@
 // How far a log is read, on standard error each second.
 use crate::files::Log;
 use crate::say::{say_count, say_word};
+use system::System;
 
 // The clock's second that was seen last, and how many others were seen before.
 #[derive(Clone, Copy)]
@@ -9,15 +10,13 @@ pub struct Clock {
     pub ticks: u64,
 }
 
-fn second_now() -> i64 {
-    let mut now: i64 = 0;
-    libc::time(&mut now);
-    now
+fn second_now(sys: &mut System) -> i64 {
+    sys.second()
 }
 
-pub fn clock_now() -> Clock {
+pub fn clock_now(sys: &mut System) -> Clock {
     Clock {
-        second: second_now(),
+        second: second_now(sys),
         ticks: 0,
     }
 }
@@ -36,25 +35,25 @@ fn percent(place: u64, size: u64) -> u64 {
     100 * place / size
 }
 
-fn say_progress(log: Log, place: u64, records: u64) {
+fn say_progress(sys: &mut System, log: Log, place: u64, records: u64) {
     let done = percent(place, log.size);
-    say_word(b"sheet: ", log.word, b": ");
-    say_count(records, b" record, ", b" records, ");
+    say_word(sys, b"sheet: ", log.word, b": ");
+    say_count(sys, records, b" record, ", b" records, ");
     if done > 100 {
-        say_count(place, b" byte of the log\n", b" bytes of the log\n");
+        say_count(sys, place, b" byte of the log\n", b" bytes of the log\n");
         return;
     }
-    say_count(done, b"% of the log\n", b"% of the log\n");
+    say_count(sys, done, b"% of the log\n", b"% of the log\n");
 }
 
 // Says how far the log is when the clock's second has changed, but for the first time, which may come at once.
-pub fn ticked(c: Clock, log: Log, place: u64, records: u64) -> Clock {
-    let second = second_now();
+pub fn ticked(sys: &mut System, c: Clock, log: Log, place: u64, records: u64) -> Clock {
+    let second = second_now(sys);
     if second == c.second {
         return c;
     }
     if c.ticks > 0 {
-        say_progress(log, place, records);
+        say_progress(sys, log, place, records);
     }
     Clock { second, ticks: 1 }
 }

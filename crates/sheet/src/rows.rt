@@ -4,6 +4,7 @@ use lines::{End, Line, distance_of, is_inside};
 use position_text::{put_length, put_position, put_rounded_length, put_rounded_position};
 use printer::{bytes_of, put_byte, put_bytes, put_decimal};
 use sheets::Total;
+use system::System;
 
 // Room for a name of 4,096 bytes and the figures behind it.
 const ROOM: usize = 6144;
@@ -26,9 +27,9 @@ fn put_name(out: &mut [u8], name: &[u8]) -> usize {
 }
 
 // The word at the place `word`.
-fn put_word(out: &mut [u8], word: usize) -> usize {
+fn put_word(sys: &mut System, out: &mut [u8], word: usize) -> usize {
     let mut name = io::buffer();
-    let n = os::arg(word, &mut name);
+    let n = sys.arg(word, &mut name);
     put_name(out, &name[..n])
 }
 
@@ -120,29 +121,37 @@ fn put_end(out: &mut [u8], at: usize, end: End, place: u64, cut: bool) -> usize 
 }
 
 // The text up to `end` and a line feed, by one write; whether it was written.
-fn is_written(text: &mut [u8], end: usize) -> bool {
+fn is_written(sys: &mut System, text: &mut [u8], end: usize) -> bool {
     let behind = put_byte(text, end, 10);
     let k = bytes_of(text, behind);
-    io::write_all(libc::STDOUT_FILENO, &text[..k])
+    sys.write_all(system::OUTPUT, &text[..k])
 }
 
 // The line of that number in its log.
-pub fn write_row(word: usize, number: u64, l: Line, end: End, place: u64, cut: bool) -> bool {
+pub fn write_row(
+    sys: &mut System,
+    word: usize,
+    number: u64,
+    l: Line,
+    end: End,
+    place: u64,
+    cut: bool,
+) -> bool {
     let mut text = [0u8; ROOM];
-    let a = put_word(&mut text, word);
+    let a = put_word(sys, &mut text, word);
     let b = put_count(&mut text, a, b" line ", number);
     let c = put_figures(&mut text, b, l);
     let d = put_end(&mut text, c, end, place, cut);
-    is_written(&mut text, d)
+    is_written(sys, &mut text, d)
 }
 
 // A bad record where no line is open.
-pub fn write_word(word: usize, end: End, place: u64) -> bool {
+pub fn write_word(sys: &mut System, word: usize, end: End, place: u64) -> bool {
     let mut text = [0u8; ROOM];
-    let a = put_word(&mut text, word);
+    let a = put_word(sys, &mut text, word);
     let b = put_bytes(&mut text, a, b": ");
     let c = put_end(&mut text, b, end, place, false);
-    is_written(&mut text, c)
+    is_written(sys, &mut text, c)
 }
 
 fn put_whole(out: &mut [u8], at: usize, whole: bool) -> usize {
@@ -153,10 +162,10 @@ fn put_whole(out: &mut [u8], at: usize, whole: bool) -> usize {
 }
 
 // The total, and whether the logs were read whole.
-pub fn write_total(t: Total, whole: bool) -> bool {
+pub fn write_total(sys: &mut System, t: Total, whole: bool) -> bool {
     let mut text = [0u8; 1024];
     let a = put_bytes(&mut text, 0, b"total");
     let b = put_sums(&mut text, a, t);
     let c = put_whole(&mut text, b, whole);
-    is_written(&mut text, c)
+    is_written(sys, &mut text, c)
 }

@@ -8,6 +8,7 @@ use crate::files::Log;
 use crate::say::{say_count, say_word};
 use log_parts::{Part, Walk, after, more, passed};
 use log_salvage::{Stretch, next_stretch};
+use system::System;
 use tally::plus;
 
 #[derive(Clone, Copy)]
@@ -37,11 +38,12 @@ pub fn first_run(book: Book) -> Run
 
 // Says so where a read failed, and how many bytes were read before. Why it failed comes first: asking for the
 // log's name forgets it.
-fn tell_read(p: Part, w: Walk, log: Log) {
+fn tell_read(sys: &mut System, p: Part, w: Walk, log: Log) {
     if p.failed {
-        os::fail(b"sheet: reading a log failed");
-        say_word(b"sheet: ", log.word, b": ");
+        sys.fail(b"sheet: reading a log failed");
+        say_word(sys, b"sheet: ", log.word, b": ");
         say_count(
+            sys,
             plus(w.place, p.end as u64),
             b" byte was read, and is all that the sheet has of it\n",
             b" bytes were read, and are all that the sheet has of it\n",
@@ -50,19 +52,19 @@ fn tell_read(p: Part, w: Walk, log: Log) {
 }
 
 // The log goes on: more of it is read. Only this crate calls this function.
-fn read_on(r: Run, log: Log, buf: &mut [u8]) -> Run
+fn read_on(sys: &mut System, r: Run, log: Log, buf: &mut [u8]) -> Run
     requires { Inside r.part buf.old × (r.part.end - r.part.at < 71) × (71 ≤ length buf.old) }
     ensures walk_value { (result.walk ≡ r.walk) × Inside result.part buf.new }
     ensures follows { Follows 0 r.part buf.old result.part buf.new }
 {
     let walk = r.walk;
     let book = r.book;
-    let part = more(r.part, log.fd, buf);
-    tell_read(part, walk, log);
+    let part = more(sys, r.part, log.fd, buf);
+    tell_read(sys, part, walk, log);
     Run {
         walk,
         part,
-        book: with_tick(book, log, walk),
+        book: with_tick(sys, book, log, walk),
         going: true,
     }
 }
@@ -83,7 +85,7 @@ fn ended(r: Run) -> Run
 }
 
 // One stretch, or more of the log. Only this crate calls this function.
-fn turn(r: Run, log: Log, buf: &mut [u8], points: &mut [u64]) -> Run
+fn turn(sys: &mut System, r: Run, log: Log, buf: &mut [u8], points: &mut [u64]) -> Run
     requires { Inside r.part buf.old × (71 ≤ length buf.old) }
     ensures inside { Inside result.part buf.new }
     ensures turned { Turned (stretch_at (take r.part.end buf.old) r.part.at r.part.last) r.walk r.part buf.old result.walk result.part buf.new }
@@ -97,7 +99,7 @@ fn turn(r: Run, log: Log, buf: &mut [u8], points: &mut [u64]) -> Run
     match s {
         Stretch::Kept(_, n) => {
             let next = passed(part, n);
-            let book = with_record(book, log, walk, &buf[at..at + n], points);
+            let book = with_record(sys, book, log, walk, &buf[at..at + n], points);
             Run {
                 walk: after(walk, s),
                 part: next,
@@ -115,7 +117,7 @@ fn turn(r: Run, log: Log, buf: &mut [u8], points: &mut [u64]) -> Run
             if part.last {
                 return ended(r);
             }
-            read_on(r, log, buf)
+            read_on(sys, r, log, buf)
         }
     }
 }
@@ -127,13 +129,13 @@ fn is_going(r: Run) -> bool {
 }
 
 // Nothing says that the log ends, so the turns are counted down from a number that no log uses up.
-pub fn turns(first: Run, log: Log, buf: &mut [u8], points: &mut [u64]) -> Run
+pub fn turns(sys: &mut System, first: Run, log: Log, buf: &mut [u8], points: &mut [u64]) -> Run
     requires { Inside first.part buf.old × (71 ≤ length buf.old) }
 {
     let mut r = first;
     let mut left = u64::MAX;
     while left > 0 && is_going(r) {
-        r = turn(r, log, buf, points);
+        r = turn(sys, r, log, buf, points);
         left -= 1;
     }
     r

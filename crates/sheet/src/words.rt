@@ -1,5 +1,6 @@
 // The words of the command line, one after the other.
 use programs::Common;
+use system::System;
 
 // How many logs are named, and whether standard input is one; the place of the picture's name, 0 where none
 // is given, and whether it is wanted next; and the other words.
@@ -19,16 +20,17 @@ fn with_common(w: Words, common: Common) -> Words {
 }
 
 // Says what is wrong with a word.
-fn bad(w: Words, what: &[u8], word: &[u8]) -> Words {
+fn bad(sys: &mut System, w: Words, what: &[u8], word: &[u8]) -> Words {
     let common = w.common;
-    with_common(w, programs::bad(common, b"sheet", what, word))
+    with_common(w, programs::bad(sys, common, b"sheet", what, word))
 }
 
 // A log's name.
-fn with_log(w: Words, word: &[u8]) -> Words {
+fn with_log(sys: &mut System, w: Words, word: &[u8]) -> Words {
     let input = check::same(word, b"-");
     if input & w.input {
         return bad(
+            sys,
             w,
             b": standard input can be read once, and this is given twice: `",
             word,
@@ -36,6 +38,7 @@ fn with_log(w: Words, word: &[u8]) -> Words {
     }
     if !(programs::is_file(word) | input) {
         return bad(
+            sys,
             w,
             b": wanted is a log's name of up to 4096 bytes (./-x for -x; - is standard input), --picture, --status or --help, and not `",
             word,
@@ -48,9 +51,10 @@ fn with_log(w: Words, word: &[u8]) -> Words {
 }
 
 // The picture's name, at the place `at`.
-fn with_picture(w: Words, at: usize, word: &[u8]) -> Words {
+fn with_picture(sys: &mut System, w: Words, at: usize, word: &[u8]) -> Words {
     if !programs::is_file(word) {
         return bad(
+            sys,
             w,
             b": --picture wants a file's name of up to 4096 bytes behind it (./-x for -x), and not `",
             word,
@@ -62,49 +66,50 @@ fn with_picture(w: Words, at: usize, word: &[u8]) -> Words {
     s
 }
 
-fn with_name(w: Words, word: &[u8]) -> Words {
+fn with_name(sys: &mut System, w: Words, word: &[u8]) -> Words {
     if w.picture > 0 {
-        return bad(w, b": this is given twice: `", word);
+        return bad(sys, w, b": this is given twice: `", word);
     }
     let mut s = w;
     s.wants = true;
     s
 }
 
-fn with_word(w: Words, at: usize, word: &[u8]) -> Words {
+fn with_word(sys: &mut System, w: Words, at: usize, word: &[u8]) -> Words {
     let common = w.common;
     if w.wants {
-        return with_picture(w, at, word);
+        return with_picture(sys, w, at, word);
     }
     if common.wants > 0 {
-        return with_common(w, programs::with_word(common, b"sheet", at, word));
+        return with_common(w, programs::with_word(sys, common, b"sheet", at, word));
     }
     if check::same(word, b"--picture") {
-        return with_name(w, word);
+        return with_name(sys, w, word);
     }
     if programs::is_common(common, word) & !check::same(word, b"--out") {
-        return with_common(w, programs::with_word(common, b"sheet", at, word));
+        return with_common(w, programs::with_word(sys, common, b"sheet", at, word));
     }
-    with_log(w, word)
+    with_log(sys, w, word)
 }
 
 // A word of more than 4,096 bytes is read as an empty one, which is bad wherever it stands.
-fn with_next(w: Words, at: usize) -> Words {
+fn with_next(sys: &mut System, w: Words, at: usize) -> Words {
     let common = w.common;
     if !common.good {
         return w;
     }
     let mut word = io::buffer();
-    let n = os::arg(at, &mut word);
-    with_word(w, at, &word[..n])
+    let n = sys.arg(at, &mut word);
+    with_word(sys, w, at, &word[..n])
 }
 
 // Whether nothing is missing behind the last word.
-fn complete(w: Words) -> Words {
+fn complete(sys: &mut System, w: Words) -> Words {
     let common = w.common;
     let lacks = (w.logs == 0) & !common.help;
     if common.good & (lacks | w.wants | (common.wants > 0)) {
         return bad(
+            sys,
             w,
             b": a word is missing (--help says more); wanted is LOG .., as in `",
             b"pass.log --picture drift.svg",
@@ -114,16 +119,16 @@ fn complete(w: Words) -> Words {
 }
 
 // Whether the word at the place `at` names a log, of words that are good.
-pub fn is_log(w: Words, at: usize) -> bool {
+pub fn is_log(sys: &mut System, w: Words, at: usize) -> bool {
     let common = w.common;
     let mut word = io::buffer();
-    let n = os::arg(at, &mut word);
+    let n = sys.arg(at, &mut word);
     let names = programs::is_file(&word[..n]) | check::same(&word[..n], b"-");
     names & (at != w.picture) & (at != common.status)
 }
 
 // All the words. What is wrong with them is told.
-pub fn read_words() -> Words {
+pub fn read_words(sys: &mut System) -> Words {
     let mut w = Words {
         logs: 0,
         input: false,
@@ -131,8 +136,8 @@ pub fn read_words() -> Words {
         wants: false,
         common: programs::no_words(),
     };
-    for at in 1..os::arg_count() {
-        w = with_next(w, at);
+    for at in 1..sys.arg_count() {
+        w = with_next(sys, w, at);
     }
-    complete(w)
+    complete(sys, w)
 }

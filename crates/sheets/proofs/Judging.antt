@@ -3,7 +3,7 @@ use mathlib.Core.Bool.{Bool, true, false, cond, ◌&&◌}
 use mathlib.Core.List.{List}
 use mathlib.Core.Logic.{◌⊎◌, inl, inr}
 use mathlib.Core.Path.{◌≡◌, refl, sym, ap, ◌∙◌, subst}
-use Prim.Native.Nat.{ℕ, ◌+◌, ◌*◌, ◌-◌, ◌<◌, ◌≤◌}
+use Prim.Native.Nat.{ℕ, ◌+◌, ◌*◌}
 use native.Mathlib.Omega.{arith}
 use lib.Dec.{eqb}
 use lib.ListN.{length, get_or}
@@ -21,14 +21,12 @@ use Rattle.lines.specs.declared.End.TheVariants as end
 use Rattle.lines.specs.declared.Line.{Line}
 use Rattle.lines.specs.declared.Lined.{Lined}
 use Rattle.lines.specs.declared.Lined.TheVariants as lined
-use Rattle.lines.specs.Lines.{Figures, Going, is_count, started, with_block, figures_of, going_of}
+use Rattle.lines.specs.Lines.{Figures, is_count, started, with_block, figures_of, going_of}
 use Rattle.sheets.specs.declared.Total.{Total}
 use Rattle.sheets.specs.declared.Sheet.{Sheet}
-use Rattle.sheets.specs.declared.Told.{Told}
-use Rattle.sheets.specs.declared.Turn.{Turn}
 use Rattle.sheets.specs.declared.Sum.{Sum}
 use Rattle.sheets.specs.declared.Sum.TheVariants as sum
-use Rattle.sheets.specs.Sheet.{Sums, nothing, plus, sums_fit, Current, none, line, Page, empty, Row, quiet, row, word, Judged, closing, end_row, line_row, bad, closed_row, with_total, with_line, start, block, block_on, judge, sums_of, current_of, page_of}
+use Rattle.sheets.specs.Sheet.{Sums, nothing, plus, sums_fit, none, line, Page, empty, Row, quiet, row, word, Judged, end_row, line_row, bad, closed_row, with_total, with_line, start, block, block_on, judge, sums_of, current_of, page_of}
 use Rattle.sheets.specs.Steps.{SumIf, SummedBy, CountedBy, PlacedBy}
 
 -- ---- tests joined

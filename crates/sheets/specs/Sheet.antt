@@ -1,5 +1,5 @@
 -- Document 02, R-13: the sheet, which is the total and the open line, and what a record of a log does to it. Definitions only.
-use Rattle.std.specs.Prelude.{Bool, true, false, cond, ◌&&◌, List, [], ◌∷◌, ℕ, ◌+◌, eqb, length}
+use Rattle.std.specs.Prelude.{Bool, true, false, cond, ◌&&◌, List, ℕ, ◌+◌, eqb, length}
 use Rattle.exact.specs.Whole.{Whole, ◌⊕◌}
 use Rattle.samples.specs.Samples.{little_from, sample_at}
 use Rattle.positions.specs.Positions.{plain, held_in, inside}

@@ -1,10 +1,10 @@
 -- What the functions of the total answer. Definitions only.
-use Rattle.std.specs.Prelude.{Bool, true, false, ◌&&◌, ◌⊎◌, ◌≡◌, ℕ, ◌+◌}
+use Rattle.std.specs.Prelude.{Bool, true, false, ◌&&◌, ◌⊎◌, ◌≡◌, ◌+◌}
 use Rattle.exact.specs.Whole.{Whole}
 use Rattle.positions.specs.declared.held.Held.{Held}
 use Rattle.positions.specs.Positions.{plain, HeldIf}
 use Rattle.lines.specs.declared.Line.{Line}
-use Rattle.lines.specs.Lines.{Figures, is_count, figures_of}
+use Rattle.lines.specs.Lines.{is_count, figures_of}
 use Rattle.sheets.specs.declared.Total.{Total}
 use Rattle.sheets.specs.declared.Sum.{Sum}
 use Rattle.sheets.specs.declared.Sum.TheVariants as sum

@@ -2,7 +2,6 @@
 use Rattle.std.specs.Prelude.{ℕ, Float}
 use Rattle.windows.specs.declared.WindowFunction.{WindowFunction}
 use Rattle.windows.specs.declared.WindowFunction.TheVariants.{BlackmanHarris2}
-use Rattle.sinc_parameters.specs.declared.Cutoff.{Cutoff}
 use Rattle.sinc_parameters.specs.declared.Cutoff.TheVariants.{Auto, At}
 use Rattle.asynchro_sinc.specs.declared.SincInterpolationType.{SincInterpolationType}
 use Rattle.asynchro_sinc.specs.declared.SincInterpolationType.TheVariants.{Cubic}

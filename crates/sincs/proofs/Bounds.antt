@@ -1,5 +1,5 @@
 -- What the tests of points, factor and cutoff say, and that the sine is asked for less than 2 ^ 52 steps. Assumes nothing.
-use Rattle.std.proofs.Common.{◌≡◌, ℕ, zero, suc, ◌+◌, ◌-◌, ◌*◌, ◌/◌, ◌%◌, ◌^◌, ◌<◌, ◌≤◌, Bool, true, false, ◌&&◌, T, leb, sym, refl, subst, le_trans, mod-lt, mul_comm, div-lt_iff_lt-mul, mul-le-mul_left, mul-zero, le-div_iff_mul-le, zero-mul, le-mul_of_pos_right, arith, lit<, lit≤, le-leb, leb-true}
+use Rattle.std.proofs.Common.{◌≡◌, ℕ, zero, suc, ◌+◌, ◌*◌, ◌/◌, ◌%◌, ◌^◌, ◌<◌, ◌≤◌, Bool, true, false, ◌&&◌, T, leb, sym, refl, subst, le_trans, mod-lt, mul_comm, div-lt_iff_lt-mul, mul-le-mul_left, mul-zero, le-div_iff_mul-le, zero-mul, le-mul_of_pos_right, arith, lit<, lit≤, le-leb, leb-true}
 use borrow.Author.Tests.{lt-leb}
 use lib.Ieee.{Float, nan, inf, fin, binary64, low, fits, lt, le, round, of_int, of_bits}
 use lib.Ieee.Back.{round_whole}

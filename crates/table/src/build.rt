@@ -4,6 +4,7 @@ ghost use Rattle.table.specs.Entries.{entries_of};
 
 use crate::keep::keep;
 use crate::words::Words;
+use system::System;
 use window_points::Built;
 
 // How many entries the table has; 0 where there would be too many.
@@ -20,18 +21,19 @@ fn entries_of(points: usize, factor: usize) -> usize
 }
 
 // Says what is taken. No refusal but 11 comes here.
-fn tell_refused(number: u64)
+fn tell_refused(sys: &mut System, number: u64)
     requires { number ≡ 11 }
 {
     forms::write_form(
-        libc::STDERR_FILENO,
+        sys,
+        system::ERROR,
         b"table: refused #: points times factor must be 2 to 65536, the cutoff above 0 and at most 1\n",
         &[number],
     );
 }
 
 // Builds the table on the front of an area that holds every table, and keeps it.
-fn build(w: Words, area: &mut [f64]) -> bool
+fn build(sys: &mut System, w: Words, area: &mut [f64]) -> bool
     requires { 65536 ≤ length area.old }
 {
     let n = entries_of(w.points, w.factor);
@@ -39,15 +41,15 @@ fn build(w: Words, area: &mut [f64]) -> bool
     let window = w.window;
     match sincs::make_sincs(w.points, w.factor, w.cutoff, window, table) {
         Built::Refused(r) => {
-            tell_refused(error::number(r));
+            tell_refused(sys, error::number(r));
             false
         }
-        Built::Done => keep(w, table),
+        Built::Done => keep(sys, w, table),
     }
 }
 
 // The table that the words ask for; whether it was built and kept.
-pub fn make(w: Words) -> bool {
+pub fn make(sys: &mut System, w: Words) -> bool {
     let mut area = [0.0; 65536];
-    build(w, &mut area)
+    build(sys, w, &mut area)
 }

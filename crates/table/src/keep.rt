@@ -5,30 +5,31 @@ ghost use Rattle.sincs.specs.Table.{sincs_table};
 use crate::named::put_name;
 use crate::words::Words;
 use printer::{bytes_of, put_bytes};
+use system::System;
 use table_sum::TableSum;
 use windows::WindowFunction;
 
 // Why something could not be written; the answer is that it was not.
-fn failed(what: &[u8], name: &[u8]) -> bool {
-    io::write_all(libc::STDERR_FILENO, what);
-    os::fail(name);
+fn failed(sys: &mut System, what: &[u8], name: &[u8]) -> bool {
+    sys.write_all(system::ERROR, what);
+    sys.fail(name);
     false
 }
 
 // Writes the table into the file of that name. It is closed before anything else is written, since it may
 // stand in the place of a standard stream that was closed.
-fn write_file(name: &[u8], table: &[f64]) -> bool {
-    let fd = os::open_overwrite(name);
+fn write_file(sys: &mut System, name: &[u8], table: &[f64]) -> bool {
+    let fd = sys.open_overwrite(name);
     if fd < 0 {
-        return failed(b"table: cannot open ", name);
+        return failed(sys, b"table: cannot open ", name);
     }
     let n = table.len();
-    let written = written::write_frames(fd, table, 1, n, 0, n);
-    let closed = libc::close(fd) == 0;
+    let written = written::write_frames(sys, fd, table, 1, n, 0, n);
+    let closed = sys.close(fd) == 0;
     if written & closed {
         return true;
     }
-    failed(b"table: not all of the table was written to ", name)
+    failed(sys, b"table: not all of the table was written to ", name)
 }
 
 // The digits of the sum, and the end of the line.
@@ -49,7 +50,7 @@ fn put_line(form: &mut [u8], window: WindowFunction, sum: TableSum) -> usize {
 }
 
 // The line, by one write; whether it was written.
-fn write_line(w: Words, table: &[f64]) -> bool {
+fn write_line(sys: &mut System, w: Words, table: &[f64]) -> bool {
     let window = w.window;
     let numbers = [
         w.points as u64,
@@ -60,30 +61,30 @@ fn write_line(w: Words, table: &[f64]) -> bool {
     let mut form = [0u8; 128];
     let n = put_line(&mut form, window, table_sum::sum_of(table));
     let k = bytes_of(&form, n);
-    forms::write_form(libc::STDOUT_FILENO, &form[..k], &numbers)
+    forms::write_form(sys, system::OUTPUT, &form[..k], &numbers)
 }
 
 // Keeps the table of the words in the file that --out names, which must not be standard output too, and
 // writes the line; whether all went well.
-pub fn keep(w: Words, table: &[f64]) -> bool
+pub fn keep(sys: &mut System, w: Words, table: &[f64]) -> bool
     requires { table.now ≡ sincs_table w.points w.factor w.cutoff w.window }
 {
     let common = w.common;
     let mut word = io::buffer();
-    let n = os::arg(common.out, &mut word);
-    let file = file_facts::facts_at(&word[..n]);
-    if file_facts::same_file(file, file_facts::facts_of(libc::STDOUT_FILENO)) {
-        io::write_all(
-            libc::STDERR_FILENO,
+    let n = sys.arg(common.out, &mut word);
+    let file = file_facts::facts_at(sys, &word[..n]);
+    if file_facts::same_file(file, file_facts::facts_of(sys, system::OUTPUT)) {
+        sys.write_all(
+            system::ERROR,
             b"table: --out names standard output, where the table's line goes: nothing was written\n",
         );
         return false;
     }
-    if !write_file(&word[..n], table) {
+    if !write_file(sys, &word[..n], table) {
         return false;
     }
-    if !write_line(w, table) {
-        os::fail(b"table: the table was written, and its line on standard output was not");
+    if !write_line(sys, w, table) {
+        sys.fail(b"table: the table was written, and its line on standard output was not");
         return false;
     }
     true
@@ -91,16 +92,17 @@ pub fn keep(w: Words, table: &[f64]) -> bool
 
 // Writes the status and a line feed into the file that --status names, if one is common. A file that holds
 // more than a status is left as it is: it may be the table.
-pub fn write_status(w: Words, status: u64) {
+pub fn write_status(sys: &mut System, w: Words, status: u64) {
     let common = w.common;
     if common.status == 0 {
         return;
     }
     let mut word = io::buffer();
-    let n = os::arg(common.status, &mut word);
-    let file = file_facts::facts_at(&word[..n]);
+    let n = sys.arg(common.status, &mut word);
+    let file = file_facts::facts_at(sys, &word[..n]);
     if file.size > 2 {
         return;
     }
-    programs::put_status(os::open_overwrite(&word[..n]), status);
+    let fd = sys.open_overwrite(&word[..n]);
+    programs::put_status(sys, fd, status);
 }

@@ -7,11 +7,12 @@ mod keep;
 mod named;
 mod words;
 
+use system::System;
 use words::Words;
 
-fn help() -> bool {
-    io::write_all(
-        libc::STDOUT_FILENO,
+fn help(sys: &mut System) -> bool {
+    sys.write_all(
+        system::OUTPUT,
         b"table: a table of windowed sincs, built and common.
 
   table POINTS FACTOR CUTOFF WINDOW --out FILE
@@ -43,19 +44,21 @@ file), and 2 where a word was bad or missing.
 }
 
 // What the words ask for, and the status that comes of it.
-fn status_of(w: Words) -> u64 {
+fn status_of(sys: &mut System, w: Words) -> u64 {
     let common = w.common;
     if !common.good {
         return 2;
     }
     if common.help {
-        return if help() { 0 } else { 1 };
+        return if help(sys) { 0 } else { 1 };
     }
-    if build::make(w) { 0 } else { 1 }
+    if build::make(sys, w) { 0 } else { 1 }
 }
 
-fn main() {
-    let w = words::read_words();
-    let status = status_of(w);
-    keep::write_status(w, status);
+fn main(rt: HostRuntime) {
+    let mut system = System::new(rt);
+    let sys = &mut system;
+    let w = words::read_words(sys);
+    let status = status_of(sys, w);
+    keep::write_status(sys, w, status);
 }

@@ -2,6 +2,7 @@
 use crate::named::{Named, window_named};
 use decimals::Number;
 use programs::Common;
+use system::System;
 use text::Parsed;
 use windows::WindowFunction;
 
@@ -23,14 +24,15 @@ fn with_common(w: Words, common: Common) -> Words {
 }
 
 // Says what is wrong with a word.
-fn bad(w: Words, what: &[u8], word: &[u8]) -> Words {
+fn bad(sys: &mut System, w: Words, what: &[u8], word: &[u8]) -> Words {
     let common = w.common;
-    with_common(w, programs::bad(common, b"table", what, word))
+    with_common(w, programs::bad(sys, common, b"table", what, word))
 }
 
-fn with_count(w: Words, word: &[u8]) -> Words {
+fn with_count(sys: &mut System, w: Words, word: &[u8]) -> Words {
     let Parsed::Number(n) = text::decimal_of(word) else {
         return bad(
+            sys,
             w,
             b": POINTS and FACTOR take a whole number below 2^64, and not `",
             word,
@@ -47,9 +49,10 @@ fn with_count(w: Words, word: &[u8]) -> Words {
     s
 }
 
-fn with_cutoff(w: Words, word: &[u8]) -> Words {
+fn with_cutoff(sys: &mut System, w: Words, word: &[u8]) -> Words {
     let Number::Value(x) = decimals::number_of(word) else {
         return bad(
+            sys,
             w,
             b": CUTOFF takes a decimal of up to 19 digits (0.9), a quotient of two whole numbers of up to 19 digits (9/10) or 16 hex digits of bits (x3feccccccccccccd), and not `",
             word,
@@ -61,9 +64,10 @@ fn with_cutoff(w: Words, word: &[u8]) -> Words {
     s
 }
 
-fn with_window(w: Words, word: &[u8]) -> Words {
+fn with_window(sys: &mut System, w: Words, word: &[u8]) -> Words {
     let Named::Window(window) = window_named(word) else {
         return bad(
+            sys,
             w,
             b": WINDOW takes hann, hann2, blackman, blackman2, blackman-harris, blackman-harris2, or h, h2, b, b2, bh, bh2, and not `",
             word,
@@ -80,35 +84,36 @@ fn with_window(w: Words, word: &[u8]) -> Words {
     }
 }
 
-fn with_word(w: Words, at: usize, word: &[u8]) -> Words {
+fn with_word(sys: &mut System, w: Words, at: usize, word: &[u8]) -> Words {
     let common = w.common;
     if programs::is_common(common, word) {
-        return with_common(w, programs::with_word(common, b"table", at, word));
+        return with_common(w, programs::with_word(sys, common, b"table", at, word));
     }
     let k = w.plain;
     match k {
-        0 | 1 => with_count(w, word),
-        2 => with_cutoff(w, word),
-        3 => with_window(w, word),
-        _ => bad(w, b": one word too many: `", word),
+        0 | 1 => with_count(sys, w, word),
+        2 => with_cutoff(sys, w, word),
+        3 => with_window(sys, w, word),
+        _ => bad(sys, w, b": one word too many: `", word),
     }
 }
 
 // A word of more than 4,096 bytes is read as an empty one, which is bad wherever it stands.
-fn with_next(w: Words, at: usize) -> Words {
+fn with_next(sys: &mut System, w: Words, at: usize) -> Words {
     let common = w.common;
     if !common.good {
         return w;
     }
     let mut word = io::buffer();
-    let n = os::arg(at, &mut word);
-    with_word(w, at, &word[..n])
+    let n = sys.arg(at, &mut word);
+    with_word(sys, w, at, &word[..n])
 }
 
 // Whether nothing is missing behind the last word.
-fn complete(w: Words) -> Words {
+fn complete(sys: &mut System, w: Words) -> Words {
     let common = w.common;
     let whole = programs::complete(
+        sys,
         common,
         w.plain < 4,
         b"table",
@@ -119,7 +124,7 @@ fn complete(w: Words) -> Words {
 }
 
 // All the words. What is wrong with them is told.
-pub fn read_words() -> Words {
+pub fn read_words(sys: &mut System) -> Words {
     let mut w = Words {
         plain: 0,
         points: 0,
@@ -128,8 +133,8 @@ pub fn read_words() -> Words {
         window: WindowFunction::Hann,
         common: programs::no_words(),
     };
-    for at in 1..os::arg_count() {
-        w = with_next(w, at);
+    for at in 1..sys.arg_count() {
+        w = with_next(sys, w, at);
     }
-    complete(w)
+    complete(sys, w)
 }

@@ -6,6 +6,7 @@ ghost use Rattle.std.specs.Prelude.{◌*◌, ◌≤◌, length};
 use options::{say, say_number, say_start};
 use printer::bytes_of;
 use samples::least;
+use system::System;
 
 // The next sample of each tone, and the one before it.
 #[derive(Clone, Copy)]
@@ -68,13 +69,13 @@ fn as_count(n: u64) -> usize {
     n as usize
 }
 
-fn write_some(fd: i32, bytes: &mut [u8], rest: Rest) -> Rest {
+fn write_some(sys: &mut System, fd: i32, bytes: &mut [u8], rest: Rest) -> Rest {
     let frames = rest.frames;
     let first = rest.tones;
     let n = least(bytes.len() / 16, as_count(frames));
     let tones = put_tones(bytes, n, first);
     let k = bytes_of(bytes, 16 * n);
-    let good = io::write_all(fd, &bytes[..k]);
+    let good = sys.write_all(fd, &bytes[..k]);
     Rest {
         frames: minus(frames, n as u64),
         tones,
@@ -91,7 +92,7 @@ fn has_more(rest: Rest) -> bool {
 }
 
 // Writes the tones, and says how many frames of them there are; whether all went well.
-pub fn write_tones(frames: u64, fd: i32) -> bool {
+pub fn write_tones(sys: &mut System, frames: u64, fd: i32) -> bool {
     let mut bytes = [0u8; 8192];
     let tones = first_tones();
     let mut rest = Rest {
@@ -101,30 +102,30 @@ pub fn write_tones(frames: u64, fd: i32) -> bool {
     };
     let mut turns = u64::MAX;
     while turns > 0 && has_more(rest) {
-        rest = write_some(fd, &mut bytes, rest);
+        rest = write_some(sys, fd, &mut bytes, rest);
         turns -= 1;
     }
-    let good = rest.good & is_closed(fd);
-    tell_written(frames, good);
+    let good = rest.good & is_closed(sys, fd);
+    tell_written(sys, frames, good);
     good
 }
 
 // What was written last may be lost only when the file is closed.
-fn is_closed(fd: i32) -> bool {
+fn is_closed(sys: &mut System, fd: i32) -> bool {
     if fd > 2 {
-        return libc::close(fd) == 0;
+        return sys.close(fd) == 0;
     }
     true
 }
 
-fn tell_written(frames: u64, good: bool) {
+fn tell_written(sys: &mut System, frames: u64, good: bool) {
     if !good {
-        os::fail(b"resample: writing the tones");
+        sys.fail(b"resample: writing the tones");
     }
-    say_start();
+    say_start(sys);
     if !good {
-        say(b"not all of ");
+        say(sys, b"not all of ");
     }
-    say_number(frames);
-    say(b" frames of two channels written\n");
+    say_number(sys, frames);
+    say(sys, b" frames of two channels written\n");
 }

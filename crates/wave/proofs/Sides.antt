@@ -1,5 +1,5 @@
 -- Whole numbers of at most 2 ^ 30 as doubles, and what keeps to their sides: a part of a difference, one rounding of a sum, the product with 2 ^ -30. By exact values. Assumes nothing.
-use Rattle.std.proofs.Common.{◌≡◌, ℕ, ◌-◌, ◌*◌, ◌^◌, ◌<◌, ◌≤◌, Bool, true, false, ℤ, pos, negsuc, nat_abs, sym, refl, ap, ◌∙◌, subst, le_trans, lt_of_le_of_lt, le_of_lt, mul-le-mul_right, mul_comm, le_antisymm, mul-lt-mul_of_pos_right, mul-pos, one-mul, mul-one, arith, lit<, lit≤, pow_pos, pow-add}
+use Rattle.std.proofs.Common.{◌≡◌, ℕ, ◌*◌, ◌^◌, ◌<◌, ◌≤◌, Bool, true, false, ℤ, pos, negsuc, nat_abs, sym, refl, ap, ◌∙◌, subst, le_trans, lt_of_le_of_lt, le_of_lt, mul-le-mul_right, mul_comm, le_antisymm, mul-lt-mul_of_pos_right, mul-pos, one-mul, mul-one, arith, lit<, lit≤, pow_pos, pow-add}
 use lib.Ieee.{Float, nan, inf, fin, binary64, low, unlike, up, down, round, fits, mul, of_int, of_bits}
 use lib.Ieee.Back.{round_whole}
 use lib.Ieee.Exact.{HasValue, round_exact}

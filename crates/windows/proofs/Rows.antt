@@ -1,5 +1,5 @@
 -- The table of the cutoff: every window has a row, and which decimals the constants are. Assumes nothing.
-use Rattle.std.proofs.Common.{◌≡◌, ℕ, ◌^◌, ◌<◌, false, List, [], ◌∷◌, refl, arith}
+use Rattle.std.proofs.Common.{◌≡◌, ℕ, ◌^◌, ◌<◌, false, [], ◌∷◌, refl, arith}
 use lib.Ieee.{Float, binary64, round, of_bits}
 use Rattle.windows.specs.declared.WindowFunction.{WindowFunction}
 use Rattle.windows.specs.declared.WindowFunction.TheVariants.{Blackman, Blackman2, BlackmanHarris, BlackmanHarris2, Hann, Hann2}

@@ -6,6 +6,7 @@ ghost use Rattle.written.specs.Pieces.{Written};
 
 use printer::bytes_of;
 use samples::{gather, least, samples_in, takes};
+use system::System;
 
 // What was written: the samples from number `first` up to `last`, and whether all went well.
 #[derive(Clone, Copy)]
@@ -18,6 +19,7 @@ struct Writing {
 // Behind those that were written as many more as the buffer holds: their bytes stand in the buffer when it is
 // written.
 fn write_piece(
+    sys: &mut System,
     fd: i32,
     bytes: &mut [u8],
     output: &[f64],
@@ -37,7 +39,7 @@ fn write_piece(
     Writing {
         first: w.first,
         last: done + want,
-        good: io::write_all(fd, &bytes[..n]),
+        good: sys.write_all(fd, &bytes[..n]),
     }
 }
 
@@ -49,6 +51,7 @@ fn has_more(w: Writing, most: usize) -> bool
 
 // All of them from `first` up to `most`, or as many as could be written.
 fn write_pieces(
+    sys: &mut System,
     fd: i32,
     bytes: &mut [u8],
     output: &[f64],
@@ -67,7 +70,7 @@ fn write_pieces(
     };
     let mut turns = most;
     while turns > 0 && has_more(w, most) {
-        w = write_piece(fd, bytes, output, channels, share, most, w);
+        w = write_piece(sys, fd, bytes, output, channels, share, most, w);
         turns -= 1;
     }
     w
@@ -75,6 +78,7 @@ fn write_pieces(
 
 // The samples of the frames from..to.
 fn write_range(
+    sys: &mut System,
     fd: i32,
     output: &[f64],
     channels: usize,
@@ -88,12 +92,13 @@ fn write_range(
     let first = samples_in(channels, from);
     let most = samples_in(channels, to);
     let mut bytes = [0u8; 8192];
-    write_pieces(fd, &mut bytes, output, channels, share, most, first)
+    write_pieces(sys, fd, &mut bytes, output, channels, share, most, first)
 }
 
 // Writes the frames from..to of an area of `share` frames, and says whether all of them were written: none
 // are where they have no place in the area.
 pub fn write_frames(
+    sys: &mut System,
     fd: i32,
     output: &[f64],
     channels: usize,
@@ -106,6 +111,6 @@ pub fn write_frames(
     if !(takes(channels, share, output.len()) & ((from <= to) & (to <= share))) {
         return false;
     }
-    let w = write_range(fd, output, channels, share, from, to);
+    let w = write_range(sys, fd, output, channels, share, from, to);
     w.good
 }

@@ -13,4 +13,5 @@ pub slice_bounds-put_bytes-end : goal.slice_bounds-put_bytes-end
 slice_bounds-put_bytes-end c = sym (length-take-le _ _ (place_kept _ _ _ _ (c.put_decimal-k.ensures.place, c.put_decimal-k.ensures.put)))
 
 pub returns : goal.returns
-returns c = let a = c.args in record { place = (plain_is _ a.line.now _ a.at _ _ _ a.x (c.put_bytes.ensures.place, c.put_bytes.ensures.put) _ c.bits_of.ensures (lit≤ tt) (c.put_decimal-k.ensures.place, c.put_decimal-k.ensures.put)).0; put = (plain_is _ a.line.now _ a.at _ _ _ a.x (c.put_bytes.ensures.place, c.put_bytes.ensures.put) _ c.bits_of.ensures (lit≤ tt) (c.put_decimal-k.ensures.place, c.put_decimal-k.ensures.put)).1 }
+returns c = let a = c.args in let p = plain_is _ a.line.now _ a.at _ _ _ a.x (c.put_bytes.ensures.place, c.put_bytes.ensures.put) _ c.bits_of.ensures (lit≤ tt) (c.put_decimal-k.ensures.place, c.put_decimal-k.ensures.put) in
+    record { place = p.0; put = p.1 }

@@ -1,5 +1,5 @@
 -- `wave::in_quarter` reads the entry, mirrored and negated by its quarter. Assumes nothing.
-use Rattle.std.proofs.Common.{arith}
+use Rattle.std.proofs.Common.{arith, rules}
 use Rattle.wave.proofs.Quarters.{in_table, first, second, third, fourth}
 use Rattle.wave.proofs.in_quarter.Goals as goal
 
@@ -25,5 +25,4 @@ pub returns-in-2 : goal.returns-in-2
 returns-in-2 c = third _ c.requires.table_value _ _ _ c.in-2.is c.minus-in-2.ensures
 
 pub returns-in_default : goal.returns-in_default
-returns-in_default c = let m = c.in-0.rest in
-    fourth _ c.requires.table_value _ _ _ m.0.0.1 m.0.1 m.1 c.plus-in_default.ensures
+returns-in_default c = fourth _ c.requires.table_value _ _ _ (search rules) (search rules) (search rules) c.plus-in_default.ensures

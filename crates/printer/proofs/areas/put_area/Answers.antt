@@ -8,10 +8,12 @@ use Rattle.printer.proofs.Texts.{same_text}
 use Rattle.printer.proofs.areas.put_area.Goals as goal
 
 pub returns-then-xs-eq0 : goal.returns-then-xs-eq0
-returns-then-xs-eq0 c = let a = c.args in let p = same_text a.out.now a.at _ _ _ _ (area_none a.xs.now (omega arith)) (c.put_byte.ensures.place, c.put_byte.ensures.put) in record { place = p.0; put = p.1 }
+returns-then-xs-eq0 c = let a = c.args in let p = same_text a.out.now a.at _ _ _ _ (area_none a.xs.now (omega arith)) (c.put_byte.ensures.place, c.put_byte.ensures.put) in
+    record { place = p.0; put = p.1 }
 
 pub returns-then-not-has_room : goal.returns-then-not-has_room
-returns-then-not-has_room c = let a = c.args in let p = area_kept_out a.out.now a.at a.xs.now (omega arith) (room_none _ (a.at + 16 * length a.xs.now) (length a.out.now) c.has_room.ensures c.if-not-has_room.true) in record { place = p.0; put = p.1 }
+returns-then-not-has_room c = let a = c.args in let p = area_kept_out a.out.now a.at a.xs.now (omega arith) (room_none _ (a.at + 16 * length a.xs.now) (length a.out.now) c.has_room.ensures c.if-not-has_room.true) in
+    record { place = p.0; put = p.1 }
 
 pub put_samples-requires : goal.put_samples-requires
 put_samples-requires c = let a = c.args in
@@ -25,4 +27,5 @@ overflow_add-result c = let a = c.args in
 pub returns : goal.returns
 returns c = let a = c.args in
     let h = room_some _ (a.at + 16 * length a.xs.now) (length a.out.now) c.has_room.ensures c.if-not-has_room.false in
-    let p = area_fitted a.out.now a.at a.xs.now (omega arith) _ h c.put_samples.ensures in record { place = p.0; put = p.1 }
+    let p = area_fitted a.out.now a.at a.xs.now (omega arith) _ h c.put_samples.ensures in
+    record { place = p.0; put = p.1 }

@@ -9,7 +9,8 @@ use Rattle.printer.proofs.numbers.put_bits.Goals as goal
 
 pub returns-then-not-has_room : goal.returns-then-not-has_room
 unfolding digits_of
-returns-then-not-has_room c = let a = c.args in let p = bits_kept_out a.out.now a.at a.x (room_none _ (a.at + 16) (length a.out.now) c.has_room.ensures c.if-not-has_room.true) in record { place = p.0; put = p.1 }
+returns-then-not-has_room c = let a = c.args in let p = bits_kept_out a.out.now a.at a.x (room_none _ (a.at + 16) (length a.out.now) c.has_room.ensures c.if-not-has_room.true) in
+    record { place = p.0; put = p.1 }
 
 pub put_hex-requires : goal.put_hex-requires
 put_hex-requires c = let a = c.args in
@@ -24,4 +25,5 @@ pub returns : goal.returns
 unfolding digits_of
 returns c = let a = c.args in
     let h = room_some _ (a.at + 16) (length a.out.now) c.has_room.ensures c.if-not-has_room.false in
-    let p = bits_fitted a.out.now a.at a.x _ _ c.bits_of.ensures h c.put_hex.ensures in record { place = p.0; put = p.1 }
+    let p = bits_fitted a.out.now a.at a.x _ _ c.bits_of.ensures h c.put_hex.ensures in
+    record { place = p.0; put = p.1 }

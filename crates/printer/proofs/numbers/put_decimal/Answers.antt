@@ -6,4 +6,5 @@ use Rattle.printer.proofs.numbers.put_decimal.Goals as goal
 pub returns : goal.returns
 returns c = let a = c.args in
     let e = c.decimal-k.ensures in
-    let p = same_text a.out.now a.at _ _ _ _ (decimal_is c.decimal-k.result a.n c.ranges.n.fits e.len _ e.digits) (c.put_bytes.ensures.place, c.put_bytes.ensures.put) in record { place = p.0; put = p.1 }
+    let p = same_text a.out.now a.at _ _ _ _ (decimal_is c.decimal-k.result a.n c.ranges.n.fits e.len _ e.digits) (c.put_bytes.ensures.place, c.put_bytes.ensures.put) in
+    record { place = p.0; put = p.1 }
