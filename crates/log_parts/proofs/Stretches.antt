@@ -8,7 +8,7 @@ use borrow.Author.Tests.{ltb-true, ltb-false}
 use lib.Dec.{ltb}
 use lib.ListN.{length, take, drop, length-drop}
 use lib.Seq.{length-take-le}
-use Rattle.log_records.specs.Records.{agrees, record_length, two_at}
+use Rattle.log_records.specs.Records.{agrees, record_length}
 use Rattle.log_records.proofs.Places.{stands}
 use Rattle.log_salvage.specs.Salvage.{stops_at, skips, stretch_at}
 use Rattle.log_salvage.specs.declared.Stretch.{Stretch}

@@ -3,6 +3,7 @@ use Rattle.path.proofs.Places.{reach_at}
 use Rattle.frames.proofs.Values.{kernel_at_lem, kernel_out}
 use Rattle.frames.proofs.kernel_value.Goals as goal
 
+-- the neighbours lie within the area
 pub kernel_at-requires : goal.kernel_at-requires
 kernel_at-requires c = reach_at _ _ _ _ _ c.in-At.is c.requires
 

@@ -6,6 +6,7 @@ use Rattle.path.proofs.Sites.{inner_kernel, inner_grid, grid_sized}
 use Rattle.path.proofs.inner_span.Goals as goal
 use Rattle.path.proofs.inner_span.Goals.{In-Sinc}
 
+-- the points of a sinc that passes its test
 sized : (c : In-Sinc) → (8 ≤ c.in-Sinc.points) × (c.in-Sinc.points ≤ 256)
 sized c = grid_sized c.args.kind _ _ _ c.in-Sinc.is c.requires.0
 

@@ -6,6 +6,7 @@ use Rattle.path.proofs.Sites.{site_kernel, site_grid, grid_small}
 use Rattle.path.proofs.site_of.Goals as goal
 use Rattle.path.proofs.site_of.Goals.{In-Sinc}
 
+-- the places of a sinc's grid points stay small
 small : (c : In-Sinc) → (2 * c.in-Sinc.points < 131072) × (c.in-Sinc.points + c.args.needed < 131072)
 small c = grid_small c.args.kind _ _ _ c.args.needed c.in-Sinc.is c.requires.0 c.requires.1
 

@@ -1,5 +1,5 @@
 -- `table_sum::sum_of` meets its contract: each turn adds one entry more. Assumes nothing.
-use Rattle.std.proofs.Common.{◌-◌, arith}
+use Rattle.std.proofs.Common.{arith}
 use Rattle.table_sum.proofs.Sums.{summed_none, summed_next, summed_done}
 use Rattle.table_sum.proofs.sum_of.Goals as goal
 

@@ -11,8 +11,7 @@ use lib.Dec.{T}
 use lib.IntN.{ℤ, pos, negsuc, nat_abs}
 use lib.Signed.{lt_z, non_neg, mag}
 use Rattle.file_facts.specs.Told.{at_least_zero}
-use Rattle.file_facts.proofs.taken.at_least_zero.Statement.{statement}
-use Rattle.file_facts.proofs.taken.at_least_zero.Tie as tie
+use Rattle.file_facts.proofs.taken.at_least_zero.Goals as goal
 
 not_below : (y : ℤ) → mag y < 2 ^ 63 → lt_z y (pos 0) ≡ false → T (non_neg y) × Fits w64 (nat_abs y)
 not_below (pos n) f e = (tt, record { fits = omega arith })
@@ -30,20 +29,15 @@ none (pos n) e =
     omega arith
 none (negsuc n) e = refl
 
--- the number as the machine reads it back from its bits, which give it
 abbrev back : ℤ → ℤ
 back z = to_z w64 (of_z w64 z)
 
-cast-result : tie.Need-overflow-cast-result
-cast-result c =
-    let n = c.before.args.n in
-    not_below (back n) (subst (λ (y : ℤ). mag y < 2 ^ 63) (sym (to_z-of_z w64 n c.before.ranges.n)) c.before.ranges.n.sfits) c.if1.false
+pub overflow_cast-result : goal.overflow_cast-result
+overflow_cast-result c = let n = c.args.n in
+    not_below (back n) (subst (λ (y : ℤ). mag y < 2 ^ 63) (sym (to_z-of_z w64 n c.ranges.n)) c.ranges.n.sfits) c.if-n-lt0.false
 
-returns : tie.Need-returns
-returns c = none (back c.before.args.n) c.if1.true ∙ ap at_least_zero (to_z-of_z w64 c.before.args.n c.before.ranges.n)
+pub returns-then-n-lt0 : goal.returns-then-n-lt0
+returns-then-n-lt0 c = none (back c.args.n) c.if-n-lt0.true ∙ ap at_least_zero (to_z-of_z w64 c.args.n c.ranges.n)
 
-returns-2 : tie.Need-returns-2
-returns-2 c = kept (back c.before.args.n) c.if1.false ∙ ap at_least_zero (to_z-of_z w64 c.before.args.n c.before.ranges.n)
-
-pub at-least-zero-spec : {M : Type 1} → statement M
-at-least-zero-spec = tie.close (tie.spec cast-result returns returns-2)
+pub returns-else-n-lt0 : goal.returns-else-n-lt0
+returns-else-n-lt0 c = kept (back c.args.n) c.if-n-lt0.false ∙ ap at_least_zero (to_z-of_z w64 c.args.n c.ranges.n)

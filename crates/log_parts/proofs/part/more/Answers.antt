@@ -1,0 +1,13 @@
+-- `log_parts::part::more` meets its contract: what is read stands behind what was moved. Assumes nothing.
+use mathlib.Core.Path.{refl, ◌∙◌}
+use Prim.Native.Nat.{◌-◌}
+use native.Mathlib.Omega.{arith}
+use lib.ListN.{length}
+use borrow.Rule.Slice.PartMut.{take_put}
+use borrow.Author.Rules.{rules}
+use Rattle.log_parts.proofs.part.more.Goals as goal
+
+pub returns : goal.returns
+returns c = let m = c.move_front in
+    let p = c.args.p in
+    record { at_value = (refl, search rules, search rules); buf_after = take_put (p.end - p.at) (length m.new.buf - (p.end - p.at)) m.new.buf c.read-got.new.buf (omega arith) ∙ m.ensures }
