@@ -1,5 +1,5 @@
 -- Document 02, R-13: the line along live calls, and what it is beside demand 3's ledger. Definitions only.
-use Rattle.std.specs.Prelude.{List, [], ◌∷◌, ◌≡◌, ℕ, ◌*◌, Float}
+use Rattle.std.specs.Prelude.{List, [], ◌∷◌, ◌≡◌, ◌*◌, Float}
 use Rattle.exact.specs.Whole.{◌⊙◌, Same}
 use Rattle.error.specs.Refusals.{Said, given, refused}
 use Rattle.state.specs.declared.State.{State}

@@ -1,5 +1,5 @@
 -- Document 02, R-13: the sheet over logs, and the log that our writer makes of a history. Definitions only.
-use Rattle.std.specs.Prelude.{Bool, true, false, cond, List, [], ◌∷◌, ◌++◌, ℕ, Float, get_or, take, drop}
+use Rattle.std.specs.Prelude.{cond, List, [], ◌∷◌, ◌++◌, ℕ, Float, get_or, take, drop}
 use Rattle.std.specs.Float.{binary64}
 use Rattle.std.specs.Float.Ieee.{to_bits}
 use Rattle.error.specs.Refusals.{Said, given, refused}
@@ -14,8 +14,7 @@ use Rattle.log_records.specs.Records.{two_at, record_of}
 use Rattle.log_calls.specs.Payloads.{start_payload, block_payload, setting_payload}
 use Rattle.log_claims.specs.Listing.{listing}
 use Rattle.log_claims.specs.Claims.{joined, kept_parts}
-use Rattle.lines.specs.Lines.{Figures}
-use Rattle.sheets.specs.Sheet.{Sums, nothing, plus, Page, empty, Row, quiet, row, word, Judged, judge, log_end}
+use Rattle.sheets.specs.Sheet.{Sums, plus, Page, empty, Row, quiet, row, word, Judged, judge, log_end}
 
 -- ---- a sheet over logs: the page then, and the rows, each told when its line ended
 pub record Reading : Type 0 where
