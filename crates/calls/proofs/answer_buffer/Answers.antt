@@ -2,11 +2,7 @@
 use mathlib.Core.Path.{sym}
 use Prim.Native.Nat.{ℕ}
 use lib.ListN.{length-replicate}
-use Rattle.calls.proofs.answer_buffer.Statement.{statement}
-use Rattle.calls.proofs.answer_buffer.Tie as tie
+use Rattle.calls.proofs.answer_buffer.Goals as goal
 
-returns : tie.Need-returns
+pub returns : goal.returns
 returns c = sym (length-replicate {A = ℕ} 2098176 0)
-
-pub answer-buffer-spec : {M : Type 1} → statement M
-answer-buffer-spec = tie.close (tie.spec returns)
