@@ -8,7 +8,6 @@ use Rattle.asynchro_fast.specs.Kernels.{interp_of}
 use Rattle.kinds.specs.declared.Kind.{Kind}
 use Rattle.area.specs.Parts.{part_of, each_part}
 use Rattle.channel.specs.Mask.{is_on, where_on}
-use Rattle.path.specs.declared.Moment.{Moment}
 use Rattle.path.specs.declared.Place.{Place}
 use Rattle.path.specs.declared.Place.TheVariants.{At, Out}
 use Rattle.path.specs.Path.{path_at}

@@ -1,5 +1,5 @@
 -- A place that was found has its neighbours within reach. Assumes nothing.
-use mathlib.Core.Bool.{Bool, true, false, and-eq-true_iff}
+use mathlib.Core.Bool.{Bool, true, false, ◌&&◌, and-eq-true_iff}
 use mathlib.Core.Path.{◌≡◌, refl}
 use Prim.Native.Nat.{ℕ, ◌+◌, ◌-◌, ◌*◌, ◌/◌, ◌≤◌, ◌<◌}
 use native.Mathlib.Omega.{arith}
@@ -33,10 +33,10 @@ from_reach degree shift last nan frac n h = tt
 from_reach degree shift last (inf s) frac n h = tt
 from_reach degree shift last (fin false m e) frac n h =
     let k = m * up e / down e in
-    within_reach degree _ (k + shift) frac n (λ t. omega (arith, leb-true (k + shift) last t))
+    within_reach degree (leb (k + shift) last) (k + shift) frac n (λ t. omega (arith, leb-true (k + shift) last t))
 from_reach degree shift last (fin true m e) frac n h =
     let k = m * up e / down e in
-    within_reach degree _ (shift - k) frac n (λ t. omega (arith, leb-true (shift - k) last ((and-eq-true_iff (leb k shift) (leb (shift - k) last)).0 t).1))
+    within_reach degree (leb k shift && leb (shift - k) last) (shift - k) frac n (λ t. omega (arith, leb-true (shift - k) last ((and-eq-true_iff (leb k shift) (leb (shift - k) last)).0 t).1))
 
 pub place_reach : (degree : PolynomialDegree) (needed : ℕ) (p : Place) (x : Float) (n : ℕ) → 2 * points_of degree + needed ≤ n
     → p ≡ place_of (shift_of degree) (last_of degree needed) x → Reaches degree p n

@@ -3,7 +3,6 @@ use Rattle.std.specs.Prelude.{Bool, true, ◌&&◌, ℕ, zero, suc, ◌+◌, ◌
 use Rattle.kinds.specs.declared.Kind.{Kind}
 use Rattle.kinds.specs.declared.Kind.TheVariants.{Polynomial, Sinc}
 use Rattle.grid_places.specs.Spots.{spot_from, spots_of, all_held}
-use Rattle.path.specs.declared.Moment.{Moment}
 use Rattle.path.specs.declared.Site.{Site}
 use Rattle.path.specs.declared.Site.TheVariants.{Kernel, Grid}
 use Rattle.path.specs.Path.{path_at}

@@ -7,7 +7,6 @@ use Rattle.state.specs.declared.State.{State}
 use Rattle.steps.specs.Steps.{step_of}
 use Rattle.state.specs.Record.{points_in, step_now_of, step_then_of, checked, changed, update_lengths}
 use Rattle.shape.specs.Shape.{work_holds, shape_holds}
-use Rattle.path.specs.declared.Moment.{Moment}
 use Rattle.path.specs.Path.{path_at}
 use Rattle.path.specs.Sites.{all_reach}
 

@@ -1,5 +1,4 @@
 -- `frames::run_all` meets its contract. The invariant: the output is that of the first f frames. Assumes nothing.
-use Prim.Native.Nat.{◌-◌}
 use native.Mathlib.Omega.{arith}
 use mathlib.Core.Path.{◌∙◌, sym}
 use Rattle.path.proofs.Sites.{site_lies}

@@ -1,5 +1,5 @@
 -- `kernel_frames::fill_all` meets its contract. The invariant: the first c channels have the frames. Assumes nothing.
-use Prim.Native.Nat.{◌≤◌, ◌-◌, ◌+◌, ◌*◌}
+use Prim.Native.Nat.{◌≤◌, ◌+◌, ◌*◌}
 use native.Mathlib.Omega.{arith}
 use lib.ListN.{length}
 use Rattle.area.proofs.Parts.{room}

@@ -1,5 +1,4 @@
 -- `kernel_frames::run_kernel` meets its contract. The invariant: the output is that of the first f frames. Assumes nothing.
-use Prim.Native.Nat.{◌-◌}
 use native.Mathlib.Omega.{arith}
 use mathlib.Core.Path.{refl, sym, ◌∙◌}
 use Rattle.frames.proofs.Run.{ran_none, ran_done}

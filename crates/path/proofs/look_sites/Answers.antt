@@ -1,8 +1,7 @@
 -- `path::look_sites` meets its contract. The invariant: the moment and the answer are those of the frames so far. Assumes nothing.
-use Prim.Native.Nat.{◌-◌}
 use mathlib.Core.Path.{ap, ◌∙◌}
 use native.Mathlib.Omega.{arith}
-use Rattle.path.specs.Sites.{site_of, reached}
+use Rattle.path.specs.Sites.{reached}
 use Rattle.path.proofs.Path.{along_none, along_next, along_done, reach_along}
 use Rattle.path.proofs.look_sites.Goals as goal
 

@@ -1,7 +1,5 @@
 -- `path::look_within` meets its contract. The invariant: the moment and the answer are those of the frames so far. Assumes nothing.
-use Prim.Native.Nat.{◌-◌}
 use native.Mathlib.Omega.{arith}
-use Rattle.path.specs.Turns.{is_within}
 use Rattle.path.proofs.Path.{along_none, along_next, along_done}
 use Rattle.path.proofs.look_within.Goals as goal
 
@@ -14,4 +12,7 @@ loop-f-preserved c = let l = c.loop-f in
     (omega arith, along_next _ _ _ _ l.at m.result l.reach _ l.f l.invariant.1 m.ensures c.is_within-reach.ensures)
 
 pub returns : goal.returns
-returns c = let l = c.loop-f in record { reach = (along_done _ _ _ _ l.at l.reach l.f _ l.invariant.1 (omega arith)).0; index = (along_done _ _ _ _ l.at l.reach l.f _ l.invariant.1 (omega arith)).1 }
+returns c =
+    let l = c.loop-f in
+    let d = along_done _ _ _ _ l.at l.reach l.f c.args.n l.invariant.1 (omega arith) in
+    record { reach = d.0; index = d.1 }

@@ -1,5 +1,4 @@
 -- `path::walk` meets its contract. The invariant: the lists have the places of the frames so far. Assumes nothing.
-use Prim.Native.Nat.{◌-◌}
 use native.Mathlib.Omega.{arith}
 use Rattle.path.proofs.Walking.{walking_none, walking_next, walking_done}
 use Rattle.path.proofs.walk.Goals as goal
@@ -25,4 +24,7 @@ pub shape_of-fracs : goal.shape_of-fracs
 shape_of-fracs c = c.loop-f.invariant.1.wide
 
 pub returns : goal.returns
-returns c = let l = c.loop-f in record { after = (walking_done _ _ _ _ _ _ _ _ l.at l.reach l.f _ l.invariant.1 (omega arith)).0; placed = (walking_done _ _ _ _ _ _ _ _ l.at l.reach l.f _ l.invariant.1 (omega arith)).1 }
+returns c =
+    let l = c.loop-f in
+    let d = walking_done _ _ _ _ _ _ _ _ l.at l.reach l.f c.args.n l.invariant.1 (omega arith) in
+    record { after = d.0; placed = d.1 }

@@ -7,4 +7,6 @@ pub look-requires : goal.look-requires
 look-requires c = let v = valid _ c.requires in (v.kind_holds_lem, v.input_few)
 
 pub returns : goal.returns
-returns c = record { reach = (look_is c.args.s _ _ _ _ c.step_now-t.ensures c.t_ratio_increment-d.ensures c.look.ensures.reach c.look.ensures.index).0; index = (look_is c.args.s _ _ _ _ c.step_now-t.ensures c.t_ratio_increment-d.ensures c.look.ensures.reach c.look.ensures.index).1 }
+returns c =
+    let l = look_is c.args.s _ _ _ _ c.step_now-t.ensures c.t_ratio_increment-d.ensures c.look.ensures.reach c.look.ensures.index in
+    record { reach = l.0; index = l.1 }
