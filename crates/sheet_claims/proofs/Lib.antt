@@ -3,6 +3,7 @@ pub mod Multiples
 pub mod Values
 pub mod Ledgers
 pub mod Room
+pub mod GoesOn
 pub mod Totals
 pub mod Rows
 pub mod Payloads

@@ -9,7 +9,7 @@ use Rattle.lines.specs.Lines.{Figures, on}
 use Rattle.sheet_claims.specs.Live.{live_line}
 use Rattle.sheet_claims.specs.Settled.{Settled}
 use Rattle.sheet_claims.proofs.Ledgers.{live_ledger, live_inside}
-use Rattle.sheet_claims.proofs.Room.{live_goes_on}
+use Rattle.sheet_claims.proofs.GoesOn.{live_goes_on}
 use Rattle.sheet_claims.proofs.Histories.{sheet_line}
 
 -- where the line goes on

@@ -13,11 +13,13 @@ pub mod Muted
 pub mod Sinc
 pub mod Reach
 pub mod Refused
+pub mod RefusedSettings
 pub mod Apart
 pub mod Blind
 pub mod Settled
 pub mod Lasting
 pub mod Steps
+pub mod StepsStay
 pub mod Drift
 pub mod Kept
 pub mod Waves

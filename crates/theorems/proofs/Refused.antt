@@ -1,32 +1,21 @@
--- Document 01, "Refusal numbers": "A refusal carries its number and the floats shown. State and every lent area keep their bits." For each call on a record. Assumes nothing.
-use mathlib.Core.Bool.{Bool, ◌&&◌}
+-- Document 01, "Refusal numbers": "A refusal carries its number and the floats shown. State and every lent area keep their bits." For the block and reset, and for the end of every setting; proofs/RefusedSettings.antt has the settings. Assumes nothing.
 use mathlib.Core.List.{List}
 use mathlib.Core.Path.{◌≡◌, refl}
 use Prim.Native.Nat.{ℕ}
 use native.Mathlib.Omega.{arith}
 use lib.Ieee.{Float}
 use lib.ListN.{length}
-use Rattle.exact.specs.Doubles.{◌*f◌, ◌/f◌, above_zero}
 use Rattle.error.specs.Refusals.{Said, given, refused}
 use Rattle.state.specs.declared.State.{State}
-use Rattle.asynchro.specs.Calls.{end_of, relative_holds, applied, set_ratio, set_relative, chunked, set_chunk}
+use Rattle.asynchro.specs.Calls.{end_of}
 use Rattle.plan.specs.Plan.{planned, resetting}
 use Rattle.process.specs.Block.{block_end, block_of, reset_end, reset_of}
 
 module _ (s : State) (n : ℕ) (vs : List Float) where
   -- the end of every setting
-  end_refused : (d : Said State) → (end_of s d).said ≡ refused n vs → (end_of s d).state ≡ s
+  pub end_refused : (d : Said State) → (end_of s d).said ≡ refused n vs → (end_of s d).state ≡ s
   end_refused (given t) e = absurd (let z : ◌≡◌ {A = ℕ} 0 1 = cc in omega arith)
   end_refused (refused m ws) e = refl
-
-  pub ratio_refused : (r : Float) (ramp : Bool) → (set_ratio s r ramp).said ≡ refused n vs → (set_ratio s r ramp).state ≡ s
-  ratio_refused r ramp e = end_refused (applied s (relative_holds s.m (r /f s.original)) r ramp) e
-
-  pub relative_refused : (rel : Float) (ramp : Bool) → (set_relative s rel ramp).said ≡ refused n vs → (set_relative s rel ramp).state ≡ s
-  relative_refused rel ramp e = end_refused (applied s (above_zero (s.original *f rel) && relative_holds s.m rel) (s.original *f rel) ramp) e
-
-  pub chunk_refused : (chunk : ℕ) → (set_chunk s chunk).said ≡ refused n vs → (set_chunk s chunk).state ≡ s
-  chunk_refused chunk e = end_refused (chunked s chunk) e
 
   -- the block: the record, the output area and the working area
   module _ (frames mask : ℕ) (table input output work : List Float) where

@@ -1,7 +1,6 @@
 -- Document 02, R-2: "After construction, every setting, every block and reset they equal the bits of a fresh division". Assumes nothing.
 use mathlib.Core.Bool.{true, false}
-use mathlib.Core.List.{List}
-use mathlib.Core.Path.{◌≡◌, refl, ap}
+use mathlib.Core.Path.{◌≡◌, refl}
 use lib.Ieee.{Float, nan, binary64, add, sub, mul, div, neg, round, lt, le, eq, of_int, of_bits, to_bits, fits, is_nan}
 use Rattle.exact.specs.Doubles.{one_f, half_f, two_f}
 use Rattle.error.specs.Refusals.{unless}
@@ -16,23 +15,12 @@ use Rattle.path.specs.Path.{path_at}
 use Rattle.path.specs.Places.{place_from}
 use Rattle.path.specs.Sites.{all_reach}
 use Rattle.plan.specs.Plan.{planned, restored}
-use Rattle.position.specs.History.{Start, Call}
-use Rattle.position.specs.Position.{opened, ledger}
-use Rattle.position.proofs.Lasting.{lasting}
+use Rattle.position.specs.Position.{ledger}
 use Rattle.position.proofs.Example.{made, calls, case6}
 
 -- of any record that passes the StateRecord test: each stored step is the division, the same double
 pub steps_are : (s : State) → is_state s ≡ true → (s.now ≡ step_of s.current) × (s.then ≡ step_of s.target)
 steps_are s h = ((valid s h).step_now_is, (valid s h).step_then_is)
-
--- every record of a history passes the test, so after any calls, accepted or refused, the stored steps are the divisions ..
-pub steps_stay : (s : State) → Start s → (cs : List Call) → let t = (ledger s (opened s) cs).state in (t.now ≡ step_of t.current) × (t.then ≡ step_of t.target)
-steps_stay s start cs = steps_are (ledger s (opened s) cs).state (lasting s start cs)
-
--- .. and have their bits
-pub steps_stay_bits : (s : State) → Start s → (cs : List Call) → let t = (ledger s (opened s) cs).state in
-    (to_bits binary64 t.now ≡ to_bits binary64 (step_of t.current)) × (to_bits binary64 t.then ≡ to_bits binary64 (step_of t.target))
-steps_stay_bits s start cs = let f = steps_stay s start cs in (ap (to_bits binary64) f.0, ap (to_bits binary64) f.1)
 
 -- ---- computed, on document 01's case 6: ratio 1, then 0.5
 -- a setting with ramp, and the block after it; a setting without ramp; what reset restores
