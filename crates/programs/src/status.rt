@@ -1,4 +1,4 @@
-// The status of a run, in a file: the language gives a program no exit status.
+// The status of a run, in a file: `hazivotra` reads it there and ends with it.
 use system::System;
 
 // Writes the status and a line feed into the file, if it is open, and closes it.

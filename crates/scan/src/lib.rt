@@ -4,7 +4,7 @@
 ghost use Rattle.std.specs.Prelude.{◌≡◌, ◌+◌, ◌≤◌, length};
 ghost use Rattle.scan.specs.Bytes.{index_of, slice};
 
-// The place of the first `byte` of s[from..to], or `to` where there is none.
+// The place of the first `byte` of s[from..to], or `to` where there is none. Only our own crates call this.
 pub fn find(s: &[u8], from: usize, to: usize, byte: u8) -> usize
     requires ordered { from ≤ to }
     requires within { to ≤ length s.now }
