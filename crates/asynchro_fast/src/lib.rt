@@ -7,7 +7,7 @@ ghost use Rattle.error.specs.Refusals.{said_answer};
 ghost use Rattle.asynchro_fast.specs.Degrees.{points_of, before_of};
 ghost use Rattle.asynchro_fast.specs.Kernels.{cubic, interp_of, kernel_said};
 
-use error::{Answer, Refusal};
+use error::Refusal;
 
 // The degree of the polynomial. A higher one fits more samples and takes longer.
 #[derive(Clone, Copy)]
@@ -92,46 +92,46 @@ pub fn interp(degree: PolynomialDegree, x: f64, ys: &[f64]) -> f64
 
 // The kernel of a degree at x, or 11 where the number of samples is not the degree's. Every x is
 // taken, NaN too.
-pub fn interp_answer(degree: PolynomialDegree, x: f64, ys: &[f64]) -> Answer
+pub fn interp_answer(degree: PolynomialDegree, x: f64, ys: &[f64]) -> Result<f64, Refusal>
     ensures { said_answer result ≡ kernel_said degree x ys.now }
 {
     if ys.len() == nbr_points(degree) {
-        Answer::Value(interp(degree, x, ys))
+        Ok(interp(degree, x, ys))
     } else {
-        Answer::Refused(Refusal::Argument)
+        Err(Refusal::Argument)
     }
 }
 
 // Samples at x = -3, -2, .., 4.
-pub fn interp_septic(x: f64, ys: &[f64]) -> Answer
+pub fn interp_septic(x: f64, ys: &[f64]) -> Result<f64, Refusal>
     ensures { said_answer result ≡ kernel_said PolynomialDegree.Septic x ys.now }
 {
     interp_answer(PolynomialDegree::Septic, x, ys)
 }
 
 // Samples at x = -2, -1, .., 3.
-pub fn interp_quintic(x: f64, ys: &[f64]) -> Answer
+pub fn interp_quintic(x: f64, ys: &[f64]) -> Result<f64, Refusal>
     ensures { said_answer result ≡ kernel_said PolynomialDegree.Quintic x ys.now }
 {
     interp_answer(PolynomialDegree::Quintic, x, ys)
 }
 
 // Samples at x = -1, 0, 1, 2.
-pub fn interp_cubic(x: f64, ys: &[f64]) -> Answer
+pub fn interp_cubic(x: f64, ys: &[f64]) -> Result<f64, Refusal>
     ensures { said_answer result ≡ kernel_said PolynomialDegree.Cubic x ys.now }
 {
     interp_answer(PolynomialDegree::Cubic, x, ys)
 }
 
 // Samples at x = 0, 1.
-pub fn interp_lin(x: f64, ys: &[f64]) -> Answer
+pub fn interp_lin(x: f64, ys: &[f64]) -> Result<f64, Refusal>
     ensures { said_answer result ≡ kernel_said PolynomialDegree.Linear x ys.now }
 {
     interp_answer(PolynomialDegree::Linear, x, ys)
 }
 
 // The one sample, whatever x is.
-pub fn interp_nearest(x: f64, ys: &[f64]) -> Answer
+pub fn interp_nearest(x: f64, ys: &[f64]) -> Result<f64, Refusal>
     ensures { said_answer result ≡ kernel_said PolynomialDegree.Nearest x ys.now }
 {
     interp_answer(PolynomialDegree::Nearest, x, ys)

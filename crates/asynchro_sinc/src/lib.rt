@@ -7,7 +7,7 @@ ghost use Rattle.exact.specs.Samples.{line_on, linear};
 ghost use Rattle.error.specs.Refusals.{said_answer};
 ghost use Rattle.asynchro_sinc.specs.Blends.{cubic_on, quad_on, sinc_cubic, sinc_quad, blend_said, cubic_weights, quad_weights, lin_weights};
 
-use error::{Answer, Refusal};
+use error::Refusal;
 
 // How the value between grid points is found.
 #[derive(Clone, Copy)]
@@ -54,33 +54,33 @@ pub fn lin_on(x: f64, y0: f64, y1: f64) -> f64
 }
 
 // The value at x of the cubic polynomial through four samples, at -1, 0, 1 and 2.
-pub fn interp_cubic(x: f64, ys: &[f64]) -> Answer
+pub fn interp_cubic(x: f64, ys: &[f64]) -> Result<f64, Refusal>
     ensures { said_answer result ≡ blend_said 4 sinc_cubic x ys.now }
 {
     if ys.len() != 4 {
-        return Answer::Refused(Refusal::Argument);
+        return Err(Refusal::Argument);
     }
-    Answer::Value(cubic_on(x, ys[0], ys[1], ys[2], ys[3]))
+    Ok(cubic_on(x, ys[0], ys[1], ys[2], ys[3]))
 }
 
 // The value at x of the quadratic polynomial through three samples, at 0, 1 and 2.
-pub fn interp_quad(x: f64, ys: &[f64]) -> Answer
+pub fn interp_quad(x: f64, ys: &[f64]) -> Result<f64, Refusal>
     ensures { said_answer result ≡ blend_said 3 sinc_quad x ys.now }
 {
     if ys.len() != 3 {
-        return Answer::Refused(Refusal::Argument);
+        return Err(Refusal::Argument);
     }
-    Answer::Value(quad_on(x, ys[0], ys[1], ys[2]))
+    Ok(quad_on(x, ys[0], ys[1], ys[2]))
 }
 
 // The value at x on the line through two samples, at 0 and 1.
-pub fn interp_lin(x: f64, ys: &[f64]) -> Answer
+pub fn interp_lin(x: f64, ys: &[f64]) -> Result<f64, Refusal>
     ensures { said_answer result ≡ blend_said 2 linear x ys.now }
 {
     if ys.len() != 2 {
-        return Answer::Refused(Refusal::Argument);
+        return Err(Refusal::Argument);
     }
-    Answer::Value(lin_on(x, ys[0], ys[1]))
+    Ok(lin_on(x, ys[0], ys[1]))
 }
 
 // What each of the four samples counts for in the cubic at x.

@@ -1,11 +1,11 @@
 // The small arithmetic: kernels, blends and their weights, grid points, cutoffs.
 use crate::said::{Said, float, joined, ok, refused, said_of, signed, whole};
-use error::Answer;
+use error::Refusal;
 use interpolation::{Point, Times1, Times2, Times3, Times4};
 use printer::samples_of;
 use script::values::{Values, count_at, float_at, number_at, window_at};
 
-fn kernel_of(l: u64, x: f64, ys: &[f64]) -> Answer {
+fn kernel_of(l: u64, x: f64, ys: &[f64]) -> Result<f64, Refusal> {
     match l {
         1 => asynchro_fast::interp_nearest(x, ys),
         2 => asynchro_fast::interp_lin(x, ys),
@@ -22,7 +22,7 @@ pub fn kernel(values: Values, input: &[f64]) -> Said {
     said_of(kernel_of(l, x, &input[..n]))
 }
 
-fn blend_of(points: u64, x: f64, ys: &[f64]) -> Answer {
+fn blend_of(points: u64, x: f64, ys: &[f64]) -> Result<f64, Refusal> {
     match points {
         2 => asynchro_sinc::interp_lin(x, ys),
         3 => asynchro_sinc::interp_quad(x, ys),

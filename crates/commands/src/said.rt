@@ -1,6 +1,6 @@
 // What a line is answered with: `ok` with what was asked for, `ref` with a refusal's number and floats,
 // or `bad`.
-use error::{Answer, Refusal};
+use error::Refusal;
 use questions::Count;
 
 // The first word of an answer.
@@ -96,18 +96,18 @@ pub fn refused(r: Refusal) -> Said {
 }
 
 // A leaf's answer.
-pub fn said_of(answer: Answer) -> Said {
+pub fn said_of(answer: Result<f64, Refusal>) -> Said {
     match answer {
-        Answer::Value(x) => float(ok(), x),
-        Answer::Refused(r) => refused(r),
+        Ok(x) => float(ok(), x),
+        Err(r) => refused(r),
     }
 }
 
 // The value of an accepted question, and the number of one.
-pub fn value_in(answer: Answer) -> f64 {
+pub fn value_in(answer: Result<f64, Refusal>) -> f64 {
     match answer {
-        Answer::Value(x) => x,
-        Answer::Refused(_) => 0.0,
+        Ok(x) => x,
+        Err(_) => 0.0,
     }
 }
 

@@ -1,6 +1,5 @@
 // What is said of a record.
 use crate::said::{Said, count, float, number_in, ok, refused, value_in};
-use error::Answer;
 use questions::Count;
 use state::State;
 
@@ -51,7 +50,7 @@ pub fn questions(s: State) -> Said {
 // step-now step-then
 pub fn step_questions(s: State) -> Said {
     match questions::input_step_now(s) {
-        Answer::Value(x) => float(float(ok(), x), value_in(questions::input_step_then(s))),
-        Answer::Refused(r) => refused(r),
+        Ok(x) => float(float(ok(), x), value_in(questions::input_step_then(s))),
+        Err(r) => refused(r),
     }
 }

@@ -3,15 +3,14 @@ use crate::record::{Change, Kept, area_length, copied, left};
 use crate::said::{Said, area, ok, refused};
 use printer::samples_of;
 use script::values::{Values, count_at, float_at, window_at};
-use window_points::Built;
 
 // A window, in the front of an area. One that is longer than the area is refused whatever is lent.
 pub fn window(values: Values, output: &mut [f64]) -> Said {
     let points = count_at(values, 0);
     let n = samples_of(output, points);
     match window_points::make_window(points, window_at(values, 1), &mut output[..n]) {
-        Built::Done => area(ok(), n),
-        Built::Refused(r) => refused(r),
+        Ok(()) => area(ok(), n),
+        Err(r) => refused(r),
     }
 }
 
@@ -31,8 +30,8 @@ pub fn sincs(kept: Kept, values: Values, output: &mut [f64], table: &mut [f64]) 
     let cutoff = float_at(values, 2);
     let window = window_at(values, 3);
     match sincs::make_sincs(points, factor, cutoff, window, &mut table[..n]) {
-        Built::Done => made(kept, copied(table, n, output)),
-        Built::Refused(r) => left(kept, refused(r)),
+        Ok(()) => made(kept, copied(table, n, output)),
+        Err(r) => left(kept, refused(r)),
     }
 }
 

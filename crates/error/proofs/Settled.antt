@@ -7,9 +7,8 @@ use lib.ListN.{get_or}
 use Rattle.exact.specs.Doubles.{zero_f}
 use Rattle.error.specs.declared.Refusal.{Refusal}
 use Rattle.error.specs.declared.Refusal.TheVariants.{InvalidRatio, InvalidRelativeRatio, InvalidChunkSize, RatioOutOfBounds, RatioBeyondPort, SizeTooLarge, Channels, BufferShape, Reach, StateRecord, Argument}
-use Rattle.error.specs.declared.Answer.{Answer}
-use Rattle.error.specs.declared.Answer.TheVariants.{Value, Refused}
-use Rattle.error.specs.Refusals.{number_of, values_of, Said, given, refused, said_answer}
+use Rattle.std.specs.Prelude.{Result, Ok, Err}
+use Rattle.error.specs.Refusals.{number_of, values_of, Said, given, refused, said_result, said_answer}
 
 -- the refusal of a number and its floats
 abbrev pub refusal_of : ℕ → List Float → Refusal
@@ -35,14 +34,17 @@ refusal_back Argument = refl
 pub settled : {A B : Type 0} (said : A → B) (back : B → A) → ((a : A) → back (said a) ≡ a) → (a b : A) → said a ≡ said b → a ≡ b
 settled said back h a b e = sym (h a) ∙ ap back e ∙ h b
 
-answer_of : Said Float → Answer
-answer_of (given v) = Value v
-answer_of (refused n vs) = Refused (refusal_of n vs)
+result_of : {A : Type 0} → Said A → Result A Refusal
+result_of (given v) = Ok v
+result_of (refused n vs) = Err (refusal_of n vs)
 
-answer_back : (a : Answer) → answer_of (said_answer a) ≡ a
-unfolding answer_of
-answer_back (Value v) = refl
-answer_back (Refused r) = ap Refused (refusal_back r)
+result_back : {A : Type 0} (a : Result A Refusal) → result_of (said_result a) ≡ a
+unfolding result_of
+result_back (Ok v) = refl
+result_back (Err r) = ap Err (refusal_back r)
 
-pub answer_settled : (a b : Answer) → said_answer a ≡ said_answer b → a ≡ b
-answer_settled = settled said_answer answer_of answer_back
+pub result_settled : {A : Type 0} (a b : Result A Refusal) → said_result a ≡ said_result b → a ≡ b
+result_settled = settled said_result result_of result_back
+
+pub answer_settled : (a b : Result Float Refusal) → said_answer a ≡ said_answer b → a ≡ b
+answer_settled = result_settled

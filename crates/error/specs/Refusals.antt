@@ -1,10 +1,8 @@
 -- Document 01, "Refusal numbers": the number and the floats of each refusal, and what a call says in those words. Definitions only.
-use Rattle.std.specs.Prelude.{Bool, true, false, List, [], ◌∷◌, ◌++◌, ℕ, Float, length, take}
+use Rattle.std.specs.Prelude.{Bool, true, false, List, [], ◌∷◌, ◌++◌, ℕ, Float, length, take, Result, Ok, Err}
 use Rattle.exact.specs.Doubles.{zero_f}
 use Rattle.error.specs.declared.Refusal.{Refusal}
 use Rattle.error.specs.declared.Refusal.TheVariants.{InvalidRatio, InvalidRelativeRatio, InvalidChunkSize, RatioOutOfBounds, RatioBeyondPort, SizeTooLarge, Channels, BufferShape, Reach, StateRecord, Argument}
-use Rattle.error.specs.declared.Answer.{Answer}
-use Rattle.error.specs.declared.Answer.TheVariants.{Value, Refused}
 use Rattle.error.specs.declared.Carried.{Carried}
 
 -- the column "No"
@@ -45,10 +43,14 @@ unfoldable pub unless : {A : Type 0} → Bool → ℕ → List Float → Said A 
 unless true n vs next = next
 unless false n vs next = refused n vs
 
--- a leaf's answer in those words
-abbrev pub said_answer : Answer → Said Float
-said_answer (Value v) = given v
-said_answer (Refused r) = refused (number_of r) (values_of r)
+-- a call's answer in those words
+abbrev pub said_result : {A : Type 0} → Result A Refusal → Said A
+said_result (Ok v) = given v
+said_result (Err r) = refused (number_of r) (values_of r)
+
+-- a leaf's, which gives one double
+abbrev pub said_answer : Result Float Refusal → Said Float
+said_answer a = said_result a
 
 -- the floats, and zeros up to three
 abbrev pub padded : List Float → Carried

@@ -1,5 +1,5 @@
-// The refusals of document 01, each with the floats that it carries, and the answer of a call that
-// gives one double.
+// The refusals of document 01, each with the floats that it carries. A call that can be refused answers a
+// `Result` with a `Refusal` in its `Err`.
 #![tactic(auto)]
 
 ghost use Rattle.std.specs.Prelude.{◌≡◌, [], ◌∷◌};
@@ -19,13 +19,6 @@ pub enum Refusal {
     Reach,
     StateRecord,
     Argument,
-}
-
-// What a leaf answers: its value, or why not.
-#[derive(Clone, Copy)]
-pub enum Answer {
-    Value(f64),
-    Refused(Refusal),
 }
 
 // The floats that a refusal carries: the first `count` of `values`, the others 0.0.

@@ -2,12 +2,10 @@
 // ends is proved.
 #![tactic(auto)]
 
-use error::Answer;
 use options::{Options, say, say_refused, say_start};
 use printer::samples_of;
 use samples::least;
 use system::System;
-use window_points::Built;
 use windows::WindowFunction;
 
 // The entries of a table; none where no construction takes its points or factor.
@@ -47,8 +45,8 @@ fn cutoff_of(o: Options) -> f64 {
         return o.cutoff;
     }
     match windows::calculate_cutoff(o.points as usize, window_of(o.window)) {
-        Answer::Value(x) => x,
-        Answer::Refused(_) => 0.0,
+        Ok(x) => x,
+        Err(_) => 0.0,
     }
 }
 
@@ -69,8 +67,8 @@ fn is_built(sys: &mut System, o: Options, table: &mut [f64]) -> bool {
         window_of(o.window),
         table,
     ) {
-        Built::Done => true,
-        Built::Refused(r) => {
+        Ok(()) => true,
+        Err(r) => {
             say_start(sys);
             say_refused(sys, r);
             false

@@ -8,7 +8,7 @@ ghost use Rattle.sizes.specs.Sizes.{frames_of, delay_of};
 ghost use Rattle.state.specs.Record.{points_in, step_now_of, step_then_of, max_input_of, max_output_of};
 ghost use Rattle.questions.specs.Questions.{asked, said_count};
 
-use error::{Answer, Refusal};
+use error::Refusal;
 use state::State;
 
 // What a question about a number of frames or channels answers.
@@ -76,32 +76,32 @@ pub fn output_delay(s: State) -> Count
 }
 
 // A question about a double: refusals 11 and 10 only.
-fn asked_value(s: State, x: f64) -> Answer
+fn asked_value(s: State, x: f64) -> Result<f64, Refusal>
     ensures { said_answer result ≡ asked s x }
 {
     if state::is_state(s) {
-        Answer::Value(x)
+        Ok(x)
     } else {
-        Answer::Refused(state::fault_of(s))
+        Err(state::fault_of(s))
     }
 }
 
 // The current ratio.
-pub fn resample_ratio(s: State) -> Answer
+pub fn resample_ratio(s: State) -> Result<f64, Refusal>
     ensures { said_answer result ≡ asked s s.current }
 {
     asked_value(s, s.current)
 }
 
 // Document 02, R-2: the input step now, which the record holds.
-pub fn input_step_now(s: State) -> Answer
+pub fn input_step_now(s: State) -> Result<f64, Refusal>
     ensures { said_answer result ≡ asked s (step_now_of s) }
 {
     asked_value(s, state::step_now(s))
 }
 
 // The input step to come: that of the target ratio.
-pub fn input_step_then(s: State) -> Answer
+pub fn input_step_then(s: State) -> Result<f64, Refusal>
     ensures { said_answer result ≡ asked s (step_then_of s) }
 {
     asked_value(s, state::step_then(s))

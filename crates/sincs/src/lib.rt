@@ -9,7 +9,6 @@ ghost use Rattle.sincs.specs.Sinc.{steps_of, tiny, sinc_of, place_of, value_at};
 ghost use Rattle.sincs.specs.Table.{sum_to, sum_of, value_no, entry_at, product_holds, cutoff_holds, sincs_of};
 
 use error::Refusal;
-use window_points::Built;
 use windows::WindowFunction;
 
 // |v| is below 2^-27. A NaN is not.
@@ -142,16 +141,16 @@ pub fn make_sincs(
     cutoff: f64,
     windowfunc: WindowFunction,
     sincs: &mut [f64],
-) -> Built
+) -> Result<(), Refusal>
     ensures { built_left result sincs.new ≡ sincs_of npoints factor cutoff windowfunc sincs.old }
 {
     if !(product_holds(npoints, factor) & cutoff_holds(cutoff)) {
-        return Built::Refused(Refusal::Argument);
+        return Err(Refusal::Argument);
     }
     if sincs.len() != npoints * factor {
-        return Built::Refused(Refusal::BufferShape);
+        return Err(Refusal::BufferShape);
     }
     let table = quarter::quarter_wave();
     fill(&table, npoints, factor, cutoff, windowfunc, sincs);
-    Built::Done
+    Ok(())
 }

@@ -13,8 +13,7 @@ use Rattle.error.specs.declared.Refusal.{Refusal}
 use Rattle.error.proofs.Ladder.{both}
 use Rattle.windows.specs.declared.WindowFunction.{WindowFunction}
 use Rattle.window_points.specs.Filled.{Filled, filled_or, built_left}
-use Rattle.window_points.specs.declared.Built.{Built}
-use Rattle.window_points.specs.declared.Built.TheVariants as built
+use Rattle.std.specs.Prelude.{Result, Ok, Err}
 use Rattle.sincs.specs.Table.{sincs_table, product_holds, cutoff_holds, sincs_said, sincs_of}
 use Rattle.sincs.proofs.Bounds.{product, product_most}
 use Rattle.table.specs.Entries.{entries_of}
@@ -33,10 +32,10 @@ module _ (p f : ℕ) where
 -- ---- the answer
 module _ (p f : ℕ) (c : Float) (w : WindowFunction) (old area : List Float) where
   -- done: the area is the table
-  pub done_is : (r : Built) → r ≡ built.Done → built_left r area ≡ sincs_of p f c w old → area ≡ sincs_table p f c w
-  done_is r k e = go (sincs_said p f c (length old)) (sym (ap (λ (x : Built). built_left x area) k) ∙ e)
+  pub done_is : (r : Result Unit Refusal) → r ≡ (Ok tt) → built_left r area ≡ sincs_of p f c w old → area ≡ sincs_table p f c w
+  done_is r k e = go (sincs_said p f c (length old)) (sym (ap (λ (x : Result Unit Refusal). built_left x area) k) ∙ e)
     where
-      go : (s : Said Unit) → built_left built.Done area ≡ filled_or old (sincs_table p f c w) s → area ≡ sincs_table p f c w
+      go : (s : Said Unit) → built_left (Ok tt) area ≡ filled_or old (sincs_table p f c w) s → area ≡ sincs_table p f c w
       go (given u) h = ap (λ (x : Filled). x.area) h
       go (refused n vs) h =
           let z : given tt ≡ refused n vs = ap (λ (x : Filled). x.said) h in
@@ -53,8 +52,8 @@ module _ (p f : ℕ) (c : Float) (w : WindowFunction) (old area : List Float) wh
       let z : refused n vs ≡ given tt = ap (λ (x : Filled). x.said) h in
       cc
 
-  pub refused_is : (r : Built) (e : Refusal) → r ≡ built.Refused e → built_left r area ≡ sincs_of p f c w old → length old ≡ entries_of p f → number_of e ≡ 11
-  refused_is r e k h l = eleven (product_holds p f && cutoff_holds c) (eqb (length old) (p * f)) (number_of e) (values_of e) (sym (ap (λ (x : Built). built_left x area) k) ∙ h) long
+  pub refused_is : (r : Result Unit Refusal) (e : Refusal) → r ≡ Err e → built_left r area ≡ sincs_of p f c w old → length old ≡ entries_of p f → number_of e ≡ 11
+  refused_is r e k h l = eleven (product_holds p f && cutoff_holds c) (eqb (length old) (p * f)) (number_of e) (values_of e) (sym (ap (λ (x : Result Unit Refusal). built_left x area) k) ∙ h) long
     where
       long : (product_holds p f && cutoff_holds c) ≡ true → eqb (length old) (p * f) ≡ true
       long t =

@@ -5,7 +5,6 @@ ghost use Rattle.table.specs.Entries.{entries_of};
 use crate::keep::keep;
 use crate::words::Words;
 use system::System;
-use window_points::Built;
 
 // How many entries the table has; 0 where there would be too many.
 fn entries_of(points: usize, factor: usize) -> usize
@@ -40,11 +39,11 @@ fn build(sys: &mut System, w: Words, area: &mut [f64]) -> bool
     let table = &mut area[..n];
     let window = w.window;
     match sincs::make_sincs(w.points, w.factor, w.cutoff, window, table) {
-        Built::Refused(r) => {
+        Err(r) => {
             tell_refused(sys, error::number(r));
             false
         }
-        Built::Done => keep(sys, w, table),
+        Ok(()) => keep(sys, w, table),
     }
 }
 

@@ -4,7 +4,8 @@ use mathlib.Core.List.{List}
 use mathlib.Core.Path.{◌≡◌, sym, ◌∙◌}
 use Prim.Native.Nat.{ℕ}
 use lib.Ieee.{Float}
-use Rattle.error.specs.declared.Answer.{Answer}
+use Rattle.core.specs.declared.result.Result as result
+use Rattle.error.specs.declared.Refusal.{Refusal}
 use Rattle.error.specs.Refusals.{Said, said_answer}
 use Rattle.error.proofs.Settled.{answer_settled}
 use Rattle.interpolation.specs.declared.Point.{Point}
@@ -27,7 +28,6 @@ use Rattle.process.specs.declared.Sizes.{Sizes}
 use Rattle.process.specs.declared.BlockOutcome.{BlockOutcome}
 use Rattle.process.specs.Block.{Block, Reset, block_left, reset_left}
 use Rattle.process.proofs.Settled.{block_settled, reset_settled}
-use Rattle.window_points.specs.declared.Built.{Built}
 use Rattle.window_points.specs.Filled.{Filled, built_left}
 use Rattle.window_points.proofs.Settled.{built_settled}
 
@@ -44,7 +44,7 @@ pub plain : {A : Type 0} (defined a b : A) → a ≡ defined → b ≡ defined �
 plain = one_outcome (λ a. a) (λ a b e. e)
 
 -- kernels, blends, the cutoff, the cosine and the sine, the ratio asked for
-pub answers : (defined : Said Float) (a b : Answer) → said_answer a ≡ defined → said_answer b ≡ defined → a ≡ b
+pub answers : (defined : Said Float) (a b : result.Result Float Refusal) → said_answer a ≡ defined → said_answer b ≡ defined → a ≡ b
 answers = one_outcome said_answer answer_settled
 
 -- one to four grid points
@@ -82,5 +82,5 @@ pub resets : (defined : Reset) (o p : Outcome) (work work' : List Float) → res
 resets defined o p work work' a b = reset_settled o p work work' (a ∙ sym b)
 
 -- a window or a table in a lent area: the answer and the area
-pub fills : (defined : Filled) (o p : Built) (area area' : List Float) → built_left o area ≡ defined → built_left p area' ≡ defined → (o ≡ p) × (area ≡ area')
+pub fills : (defined : Filled) (o p : result.Result Unit Refusal) (area area' : List Float) → built_left o area ≡ defined → built_left p area' ≡ defined → (o ≡ p) × (area ≡ area')
 fills defined o p area area' a b = built_settled o p area area' (a ∙ sym b)

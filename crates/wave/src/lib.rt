@@ -15,7 +15,7 @@ ghost use Rattle.wave.specs.Carried.{place_of, in_quarter};
 ghost use Rattle.wave.specs.Cosine.{cosine_at, sine_at, cosine_said, sine_said};
 ghost use Rattle.wave.specs.Turns.{Castable, place_f, line_from, line_at};
 
-use error::{Answer, Refusal};
+use error::Refusal;
 
 // How many places ahead of k the line is taken. The sine is the cosine a quarter of a turn before, which
 // is three quarters on.
@@ -119,26 +119,26 @@ fn is_small(k: f64) -> bool
 }
 
 // The line's value, or why not.
-fn answered(k: f64, ahead: usize) -> Answer
+fn answered(k: f64, ahead: usize) -> Result<f64, Refusal>
     requires { ahead ≤ 4096 }
     ensures { said_answer result ≡ unless (small k) 11 [] (given (line_at ahead k)) }
 {
     if !is_small(k) {
-        return Answer::Refused(Refusal::Argument);
+        return Err(Refusal::Argument);
     }
     let table = quarter::quarter_wave();
-    Answer::Value(line_at(&table, k, ahead))
+    Ok(line_at(&table, k, ahead))
 }
 
 // The cosine of k steps, |k| below 2^52.
-pub fn cosine(k: f64) -> Answer
+pub fn cosine(k: f64) -> Result<f64, Refusal>
     ensures { said_answer result ≡ cosine_said k }
 {
     answered(k, COSINE)
 }
 
 // The sine of k steps, |k| below 2^52.
-pub fn sine(k: f64) -> Answer
+pub fn sine(k: f64) -> Result<f64, Refusal>
     ensures { said_answer result ≡ sine_said k }
 {
     answered(k, SINE)

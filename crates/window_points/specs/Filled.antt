@@ -1,8 +1,7 @@
 -- What a call that fills a lent area leaves: what it says, and the area. Definitions only.
-use Rattle.std.specs.Prelude.{ℕ, zero, suc, List, [], ◌∷◌, ◌++◌, Float}
-use Rattle.error.specs.Refusals.{Said, given, refused, number_of, values_of}
-use Rattle.window_points.specs.declared.Built.{Built}
-use Rattle.window_points.specs.declared.Built.TheVariants as built
+use Rattle.std.specs.Prelude.{ℕ, zero, suc, List, [], ◌∷◌, ◌++◌, Float, Result}
+use Rattle.error.specs.Refusals.{Said, given, refused, said_result}
+use Rattle.error.specs.declared.Refusal.{Refusal}
 
 -- f 0, f 1, .., f (n - 1)
 unfoldable pub listed : (ℕ → Float) → ℕ → List Float
@@ -19,10 +18,9 @@ filled_or old new (given u) = record { said = given u; area = new }
 filled_or old new (refused n vs) = record { said = refused n vs; area = old }
 
 -- the answer in document 01's words
-abbrev pub said_built : Built → Said Unit
-said_built built.Done = given tt
-said_built (built.Refused r) = refused (number_of r) (values_of r)
+abbrev pub said_built : Result Unit Refusal → Said Unit
+said_built r = said_result r
 
 -- what a call left: its answer, and the area at its end
-abbrev pub built_left : Built → List Float → Filled
+abbrev pub built_left : Result Unit Refusal → List Float → Filled
 built_left r area = record { said = said_built r; area = area }

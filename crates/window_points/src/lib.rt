@@ -11,13 +11,6 @@ ghost use Rattle.window_points.specs.Window.{window_of};
 use error::Refusal;
 use windows::WindowFunction;
 
-// What a call that fills a lent area answers.
-#[derive(Clone, Copy)]
-pub enum Built {
-    Done,
-    Refused(Refusal),
-}
-
 // The cosine of h times the angle of point i of n.
 fn cosine_of(table: &[u32], h: usize, i: usize, n: usize) -> f64
     requires table_value { table.now ≡ wave }
@@ -101,16 +94,20 @@ fn in_range(npoints: usize) -> bool
 }
 
 // The periodic window of `npoints` points, 2 to 65,536, in an area of just that length.
-pub fn make_window(npoints: usize, windowfunc: WindowFunction, window: &mut [f64]) -> Built
+pub fn make_window(
+    npoints: usize,
+    windowfunc: WindowFunction,
+    window: &mut [f64],
+) -> Result<(), Refusal>
     ensures { built_left result window.new ≡ window_of npoints windowfunc window.old }
 {
     if !in_range(npoints) {
-        return Built::Refused(Refusal::Argument);
+        return Err(Refusal::Argument);
     }
     if window.len() != npoints {
-        return Built::Refused(Refusal::BufferShape);
+        return Err(Refusal::BufferShape);
     }
     let table = quarter::quarter_wave();
     fill(&table, windowfunc, window);
-    Built::Done
+    Ok(())
 }

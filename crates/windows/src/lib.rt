@@ -6,7 +6,7 @@ ghost use Rattle.exact.specs.Doubles.{count};
 ghost use Rattle.error.specs.Refusals.{said_answer};
 ghost use Rattle.windows.specs.Cutoff.{row_of, cutoff_rows, cutoff_by, cutoff_said};
 
-use error::{Answer, Refusal};
+use error::Refusal;
 
 // The windows that a sinc can be shaped by. A 2 stands for the square of the window before it.
 #[derive(Clone, Copy)]
@@ -67,13 +67,13 @@ fn in_range(npoints: usize) -> bool
 
 // A cutoff frequency, relative to half the sample rate, that suits a sinc of `npoints` points under
 // the window. Takes 1 to 65,536 points.
-pub fn calculate_cutoff(npoints: usize, window: WindowFunction) -> Answer
+pub fn calculate_cutoff(npoints: usize, window: WindowFunction) -> Result<f64, Refusal>
     ensures { said_answer result ≡ cutoff_said npoints window }
 {
     if !in_range(npoints) {
-        return Answer::Refused(Refusal::Argument);
+        return Err(Refusal::Argument);
     }
     let k = constants(window);
     let n = std::num::nearest_u64_to_f64(npoints as u64);
-    Answer::Value(cutoff_by(k, n))
+    Ok(cutoff_by(k, n))
 }

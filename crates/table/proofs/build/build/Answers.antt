@@ -12,9 +12,9 @@ pub tell_refused-requires : goal.tell_refused-requires
 tell_refused-requires c = let w = c.args.w in
     let old = take c.entries_of-n.result c.args.area.now in
     c.number.ensures
-    ∙ refused_is w.points w.factor w.cutoff w.window old _ _ _ c.in-Refused.is c.make_sincs.ensures
+    ∙ refused_is w.points w.factor w.cutoff w.window old _ _ _ c.in-Err.is c.make_sincs.ensures
     (omega (arith, length-take c.entries_of-n.result c.args.area.now, c.entries_of-n.ensures.0, c.entries_of-n.ensures.1, c.requires))
 
 pub keep-requires : goal.keep-requires
 keep-requires c = let w = c.args.w in
-    done_is w.points w.factor w.cutoff w.window (take c.entries_of-n.result c.args.area.now) _ _ c.in-Done.is c.make_sincs.ensures
+    done_is w.points w.factor w.cutoff w.window (take c.entries_of-n.result c.args.area.now) _ _ c.in-Ok.is c.make_sincs.ensures
