@@ -1,5 +1,5 @@
 -- Computed examples of the kernels on doubles. Assumes nothing.
-use mathlib.Core.List.{List, [], ◌∷◌}
+use mathlib.Core.List.{[], ◌∷◌}
 use mathlib.Core.Path.{◌≡◌, refl}
 use lib.Ieee.{Float, binary64, add, mul, div, neg, of_int, of_bits}
 use Rattle.exact.specs.Doubles.{zero_f, one_f}

@@ -10,7 +10,7 @@ ghost use Rattle.asynchro_fast.specs.Kernels.{cubic, interp_of, kernel_said};
 use error::Refusal;
 
 // The degree of the polynomial. A higher one fits more samples and takes longer.
-#[derive(Clone, Copy)]
+#[derive(Clone, Copy, Debug, PartialEq, Eq)]
 pub enum PolynomialDegree {
     // The one sample, with no fitting.
     Nearest,

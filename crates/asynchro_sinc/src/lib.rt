@@ -10,7 +10,7 @@ ghost use Rattle.asynchro_sinc.specs.Blends.{cubic_on, quad_on, sinc_cubic, sinc
 use error::Refusal;
 
 // How the value between grid points is found.
-#[derive(Clone, Copy)]
+#[derive(Clone, Copy, Debug, PartialEq, Eq)]
 pub enum SincInterpolationType {
     // A cubic through the four nearest grid points.
     Cubic,

@@ -6,7 +6,7 @@ ghost use Rattle.std.specs.Prelude.{◌≡◌, [], ◌∷◌};
 ghost use Rattle.error.specs.Refusals.{number_of, values_of, padded};
 
 // Document 01, "Refusal numbers".
-#[derive(Clone, Copy)]
+#[derive(Clone, Copy, Debug, PartialEq)]
 pub enum Refusal {
     InvalidRatio(f64),
     InvalidRelativeRatio(f64),
@@ -22,7 +22,7 @@ pub enum Refusal {
 }
 
 // The floats that a refusal carries: the first `count` of `values`, the others 0.0.
-#[derive(Clone, Copy)]
+#[derive(Clone, Copy, Debug, PartialEq)]
 pub struct Carried {
     pub count: usize,
     pub values: [f64; 3],

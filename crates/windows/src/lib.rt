@@ -9,7 +9,7 @@ ghost use Rattle.windows.specs.Cutoff.{row_of, cutoff_rows, cutoff_by, cutoff_sa
 use error::Refusal;
 
 // The windows that a sinc can be shaped by. A 2 stands for the square of the window before it.
-#[derive(Clone, Copy)]
+#[derive(Clone, Copy, Debug, PartialEq, Eq)]
 pub enum WindowFunction {
     Blackman,
     Blackman2,
