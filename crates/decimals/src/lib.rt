@@ -4,4 +4,4 @@
 mod nearest;
 mod numbers;
 
-pub use numbers::{Number, number_of, quotient_of};
+pub use numbers::{number_of, quotient_of};

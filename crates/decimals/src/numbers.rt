@@ -3,14 +3,6 @@ ghost use Rattle.std.specs.Prelude.{◌≡◌, ◌^◌, ◌<◌};
 ghost use Rattle.decimals.specs.Numbers.{digits_of, whole_of, counted, decimal_in, quotient_of, bits_in, number_of};
 
 use crate::nearest::nearest;
-use text::Parsed;
-
-// The double of a word, or that the word is none.
-#[derive(Clone, Copy)]
-pub enum Number {
-    Value(f64),
-    Bad,
-}
 
 fn power_of_ten(k: usize) -> u64
     requires { k < 20 }
@@ -24,25 +16,25 @@ fn power_of_ten(k: usize) -> u64
 }
 
 // A word of up to 19 digits.
-fn digits(word: &[u8]) -> Parsed
+#[tactic(auto, unfolding(crate::specs::Numbers::digits_of))]
+fn digits(word: &[u8]) -> Option<u64>
     ensures { result ≡ digits_of word.now }
 {
     if word.len() > 19 {
-        return Parsed::Bad;
+        return None;
     }
     text::decimal_of(word)
 }
 
-fn whole(word: &[u8]) -> Number
+fn whole(word: &[u8]) -> Option<f64>
     ensures { result ≡ whole_of word.now }
 {
-    let Parsed::Number(n) = digits(word) else {
-        return Number::Bad;
-    };
-    Number::Value(nearest(n, 1))
+    let n = digits(word)?;
+    Some(nearest(n, 1))
 }
 
 // How many of the digits before a point count: a lone 0 does not.
+#[tactic(auto, unfolding(crate::specs::Numbers::counted))]
 fn counting(before: &[u8]) -> usize
     ensures { result ≡ counted before.now }
 {
@@ -54,59 +46,50 @@ fn counting(before: &[u8]) -> usize
 }
 
 // Digits before and behind a point, up to 19 in all: their number over a power of ten.
-fn decimal(before: &[u8], behind: &[u8]) -> Number
+fn decimal(before: &[u8], behind: &[u8]) -> Option<f64>
     ensures { result ≡ decimal_in before.now behind.now }
 {
     let places = behind.len();
     if places > 19 {
-        return Number::Bad;
+        return None;
     }
     if counting(before) > 19 - places {
-        return Number::Bad;
+        return None;
     }
-    let Parsed::Number(n) = text::decimal_of(before) else {
-        return Number::Bad;
-    };
-    let Parsed::Number(k) = text::decimal_of(behind) else {
-        return Number::Bad;
-    };
+    let n = text::decimal_of(before)?;
+    let k = text::decimal_of(behind)?;
     let ten = power_of_ten(places);
-    Number::Value(nearest(n * ten + k, ten))
+    Some(nearest(n * ten + k, ten))
 }
 
 // Two whole numbers of up to 19 digits each, the second not 0: the one over the other.
-pub fn quotient_of(above: &[u8], below: &[u8]) -> Number
+pub fn quotient_of(above: &[u8], below: &[u8]) -> Option<f64>
     ensures { result ≡ quotient_of above.now below.now }
 {
-    let Parsed::Number(n) = digits(above) else {
-        return Number::Bad;
-    };
-    let Parsed::Number(k) = digits(below) else {
-        return Number::Bad;
-    };
+    let n = digits(above)?;
+    let k = digits(below)?;
     if k == 0 {
-        return Number::Bad;
+        return None;
     }
-    Number::Value(nearest(n, k))
+    Some(nearest(n, k))
 }
 
 // Sixteen hex digits.
-fn bits(digits: &[u8]) -> Number
+#[tactic(auto, unfolding(crate::specs::Numbers::bits_in))]
+fn bits(digits: &[u8]) -> Option<f64>
     ensures { result ≡ bits_in digits.now }
 {
-    let Parsed::Number(n) = text::hex_of(digits) else {
-        return Number::Bad;
-    };
-    Number::Value(text::of_bits(n))
+    let n = text::hex_of(digits)?;
+    Some(text::of_bits(n))
 }
 
 // The double of a word: `x` and the bits; or digits with a point or a `/` among them; or digits.
-pub fn number_of(word: &[u8]) -> Number
+pub fn number_of(word: &[u8]) -> Option<f64>
     ensures { result ≡ number_of word.now }
 {
     let n = word.len();
     if n == 0 {
-        return Number::Bad;
+        return None;
     }
     if word[0] == 120 {
         return bits(&word[1..]);

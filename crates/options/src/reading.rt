@@ -5,9 +5,7 @@ use crate::names::{
     BLENDS, CUTOFF, DEGREE, FIXED, LOG, RATES, RATIO, SINC, TONES, TOO_MANY, WINDOW, WINDOWS,
     complain, complain_of,
 };
-use decimals::Number;
 use system::System;
-use text::Parsed;
 
 // What was read so far: the bit of each name that was given, the place of the next word, and how many
 // changes of the ratio. `good` is false once a word was bad. The last name, or 0, and what stands behind
@@ -48,14 +46,14 @@ fn got(r: Reading, name: usize, first: u64, second: u64) -> Reading {
 }
 
 fn with_number(sys: &mut System, r: Reading, name: usize, word: &[u8]) -> Reading {
-    let Number::Value(x) = decimals::number_of(word) else {
+    let Some(x) = decimals::number_of(word) else {
         return bad(sys, r, name, BAD_NUMBER, word);
     };
     got(r, name, text::bits_of(x), 0)
 }
 
 pub fn with_count(sys: &mut System, r: Reading, name: usize, word: &[u8]) -> Reading {
-    let Parsed::Number(n) = text::decimal_of(word) else {
+    let Some(n) = text::decimal_of(word) else {
         return bad(sys, r, name, BAD_COUNT, word);
     };
     got(r, name, n, 0)
@@ -134,15 +132,12 @@ pub fn with_value(
 
 // A rate, 0 where it is no whole number.
 fn rate_of(word: &[u8]) -> u64 {
-    match text::decimal_of(word) {
-        Parsed::Number(n) => n,
-        Parsed::Bad => 0,
-    }
+    text::decimal_of(word).unwrap_or(0)
 }
 
 // `--rates IN OUT`: the ratio, and the input's rate beside it.
 fn with_rates(sys: &mut System, r: Reading, input: &[u8], out: &[u8]) -> Reading {
-    let Number::Value(x) = decimals::quotient_of(out, input) else {
+    let Some(x) = decimals::quotient_of(out, input) else {
         complain(sys, RATES, BAD_RATES);
         return stopped(r);
     };
@@ -151,10 +146,10 @@ fn with_rates(sys: &mut System, r: Reading, input: &[u8], out: &[u8]) -> Reading
 
 // `--at B R` and `--ramp B R`: one change more, if there is room for it.
 fn with_change(sys: &mut System, r: Reading, name: usize, first: &[u8], second: &[u8]) -> Reading {
-    let Parsed::Number(block) = text::decimal_of(first) else {
+    let Some(block) = text::decimal_of(first) else {
         return bad(sys, r, name, BAD_COUNT, first);
     };
-    let Number::Value(ratio) = decimals::number_of(second) else {
+    let Some(ratio) = decimals::number_of(second) else {
         return bad(sys, r, name, BAD_NUMBER, second);
     };
     let k = r.changes;
@@ -169,7 +164,7 @@ fn with_change(sys: &mut System, r: Reading, name: usize, first: &[u8], second: 
 
 // FACTOR and BLEND of `--sinc`, whose points have been read.
 fn with_sinc(sys: &mut System, r: Reading, factor: &[u8], blend: &[u8]) -> Reading {
-    let Parsed::Number(n) = text::decimal_of(factor) else {
+    let Some(n) = text::decimal_of(factor) else {
         return bad(sys, r, SINC, BAD_COUNT, factor);
     };
     let k = number_in(&BLENDS, 32, blend);

@@ -8,10 +8,9 @@ use native.Mathlib.Omega.{arith}
 use borrow.Author.Tests.{lt-ltb, ltb-true}
 use lib.Dec.{ltb, lit<, lit≤}
 use Rattle.text.specs.Digits.{digit_of, numeral_from}
-use Rattle.text.specs.Words.{only_digits, decimal_of, run_of, step_digit, step_run, decimal_done}
+use Rattle.text.specs.Words.{only_digits, decimal_of, digits, run_of, step_digit, step_run, decimal_done}
 use Rattle.text.specs.declared.words.Run.{Run}
-use Rattle.text.specs.declared.words.Run.TheVariants as run
-use Rattle.text.specs.declared.words.Parsed.TheVariants as parsed
+use Rattle.std.specs.Prelude.{Option, Some}
 use Rattle.text.proofs.Glyphs.{glyph_back}
 use Rattle.text.proofs.Runs.{run_next, decimal_whole}
 use Rattle.printer.specs.Put.{decimal_from, decimal_text}
@@ -21,22 +20,22 @@ use Rattle.printer.proofs.Decimals.{low_glyph}
 record Read (w : List ℕ) (n : ℕ) : Type 0 where
   count : ℕ
   some : 0 < count
-  is : run_of 10 w ≡ run.Digits count n
+  is : run_of 10 w ≡ digits count n
 
 -- one digit more
 module _ (d : ℕ) (h : d < 10) where
   digit_back : digit_of (48 + d) ≡ d
   digit_back = ap digit_of (sym (low_glyph d h)) ∙ glyph_back d (omega arith)
 
-  step : (c v : ℕ) → v * 10 + d < 2 ^ 64 → step_run 10 (run.Digits c v) (48 + d) ≡ run.Digits (min (c + 1) 17) (v * 10 + d)
+  step : (c v : ℕ) → v * 10 + d < 2 ^ 64 → step_run 10 (digits c v) (48 + d) ≡ digits (min (c + 1) 17) (v * 10 + d)
   unfolding step_digit
   step c v l = rw (digit_back, lt-ltb d 10 h, lt-ltb (v * 10 + d) (2 ^ 64) l)
 
-  one_more : (w : List ℕ) (c v n : ℕ) → run_of 10 w ≡ run.Digits c v → v * 10 + d ≡ n → n < 2 ^ 64 → Read (w ++ ((48 + d) ∷ [])) n
+  one_more : (w : List ℕ) (c v n : ℕ) → run_of 10 w ≡ digits c v → v * 10 + d ≡ n → n < 2 ^ 64 → Read (w ++ ((48 + d) ∷ [])) n
   one_more w c v n e s l = record {
     count = min (c + 1) 17;
     some = le-min {k = 1} {a = c + 1} {b = 17} (omega arith) (lit≤ tt);
-    is = run_next 10 (48 + d) w (lit< tt) ∙ ap (λ (r : Run). step_run 10 r (48 + d)) e ∙ step c v (omega arith) ∙ ap (run.Digits (min (c + 1) 17)) s;
+    is = run_next 10 (48 + d) w (lit< tt) ∙ ap (λ (r : Option Run). step_run 10 r (48 + d)) e ∙ step c v (omega arith) ∙ ap (digits (min (c + 1) 17)) s;
   }
 
   one : Read ((48 + d) ∷ []) d
@@ -52,7 +51,7 @@ read (suc j) n h l = go (ltb n 10) refl (read j (n / 10) (omega (arith, pow-succ
     go true e front = one n (ltb-true n 10 e)
     go false e front = one_more (n % 10) (mod-lt n (lit< tt)) (decimal_from j (n / 10)) front.count (n / 10) n front.is (div-add-mod' n 10) l
 
-pub decimal_back : (n : ℕ) → n < 2 ^ 64 → decimal_of (decimal_text n) ≡ parsed.Number n
+pub decimal_back : (n : ℕ) → n < 2 ^ 64 → decimal_of (decimal_text n) ≡ Some n
 decimal_back n h =
     let r = read 19 n (lt_of_lt_of_le h (lit≤ tt)) h in
     sym (decimal_whole (decimal_text n)) ∙ ap decimal_done r.is ∙ rw (lt-ltb 0 r.count r.some)

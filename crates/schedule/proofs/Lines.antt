@@ -1,9 +1,8 @@
 -- What a line says, by the tests that the code makes. Assumes nothing.
 use Rattle.std.proofs.Common.{◌≡◌, ℕ, ◌-◌, ◌<◌, ◌≤◌, Bool, true, false, cond, eqb, List, [], ◌∷◌, length, get_or, take, drop, sym, refl, ap, ◌∙◌, true≢false, add-zero, arith, length-drop, get_or-drop, eq-eqb, ne_eqb, eqb-true}
 use mathlib.Core.Bool.{and-eq-true_iff}
+use Rattle.std.specs.Prelude.{Option, Some, None}
 use Rattle.text.specs.Words.{decimal_of}
-use Rattle.text.specs.declared.words.Parsed.{Parsed}
-use Rattle.text.specs.declared.words.Parsed.TheVariants as parsed
 use Rattle.schedule.specs.Words.{from_word, word_of, behind_word}
 use Rattle.schedule.specs.Places.{WordAt}
 use Rattle.schedule.specs.Entries.{same_word, name_of, named_of, with_block, fields_of, is_over, next_word, entry_of}
@@ -65,11 +64,11 @@ module _ (w : List ℕ) (a : Bool) (ta : Tells a w (97 ∷ 116 ∷ [])) where
       name_none e = rw (test_false a w _ ta na, test_false b w _ tb nb, test_false c w _ tc e)
 
 -- ---- three words
-pub fields_are : (n b v : List ℕ) (r : Entry) (x : Name) (k : ℕ) (p : Parsed) → r ≡ named_of x k v → x ≡ name_of n → p ≡ decimal_of b → p ≡ parsed.Number k → r ≡ fields_of n b v
-fields_are n b v r x k p h e f g = h ∙ ap (λ (y : Name). named_of y k v) e ∙ chosen (λ (q : Parsed). with_block (name_of n) q v) p (decimal_of b) (parsed.Number k) f g
+pub fields_are : (n b v : List ℕ) (r : Entry) (x : Name) (k : ℕ) (p : Option ℕ) → r ≡ named_of x k v → x ≡ name_of n → p ≡ decimal_of b → p ≡ Some k → r ≡ fields_of n b v
+fields_are n b v r x k p h e f g = h ∙ ap (λ (y : Name). named_of y k v) e ∙ chosen (λ (q : Option ℕ). with_block (name_of n) q v) p (decimal_of b) (Some k) f g
 
-pub fields_bad : (n b v : List ℕ) (p : Parsed) → p ≡ decimal_of b → p ≡ parsed.Bad → entry.Bad ≡ fields_of n b v
-fields_bad n b v p f g = chosen (λ (q : Parsed). with_block (name_of n) q v) p (decimal_of b) parsed.Bad f g
+pub fields_bad : (n b v : List ℕ) (p : Option ℕ) → p ≡ decimal_of b → p ≡ None → entry.Bad ≡ fields_of n b v
+fields_bad n b v p f g = chosen (λ (q : Option ℕ). with_block (name_of n) q v) p (decimal_of b) None f g
 
 -- ---- nothing, or a `#`
 module _ (w : List ℕ) (at : ℕ) where

@@ -1,11 +1,7 @@
 -- What a line of a plan says: `at BLOCK RATIO`, `ramp BLOCK RATIO`, `mask BLOCK MASK`, nothing, or that it is none of these. Definitions only.
-use Rattle.std.specs.Prelude.{ℕ, Bool, true, false, cond, ◌&&◌, ◌||◌, List, [], ◌∷◌, length, ◌==◌, slice_index}
+use Rattle.std.specs.Prelude.{ℕ, Bool, true, false, cond, ◌&&◌, ◌||◌, List, [], ◌∷◌, length, ◌==◌, slice_index, Float, Option, Some, None}
 use Rattle.text.specs.Words.{decimal_of}
-use Rattle.text.specs.declared.words.Parsed.{Parsed}
-use Rattle.text.specs.declared.words.Parsed.TheVariants as parsed
 use Rattle.decimals.specs.Numbers.{number_of}
-use Rattle.decimals.specs.declared.numbers.Number.{Number}
-use Rattle.decimals.specs.declared.numbers.Number.TheVariants as number
 use Rattle.schedule.specs.Words.{from_word, word_of, behind_word}
 use Rattle.schedule.specs.declared.entries.Name.{Name}
 use Rattle.schedule.specs.declared.entries.Name.TheVariants as name
@@ -28,17 +24,17 @@ name_of w =
     (cond (same_word w (109 ∷ 97 ∷ 115 ∷ 107 ∷ [])) name.Mask name.Unknown))
 
 -- a change before a block
-abbrev pub at_of : ℕ → Number → Entry
-at_of block (number.Value x) = entry.At block x
-at_of block number.Bad = entry.Bad
+abbrev pub at_of : ℕ → Option Float → Entry
+at_of block (Some x) = entry.At block x
+at_of block None = entry.Bad
 
-abbrev pub ramp_of : ℕ → Number → Entry
-ramp_of block (number.Value x) = entry.Ramp block x
-ramp_of block number.Bad = entry.Bad
+abbrev pub ramp_of : ℕ → Option Float → Entry
+ramp_of block (Some x) = entry.Ramp block x
+ramp_of block None = entry.Bad
 
-abbrev pub mask_of : ℕ → Parsed → Entry
-mask_of block (parsed.Number m) = entry.Mask block m
-mask_of block parsed.Bad = entry.Bad
+abbrev pub mask_of : ℕ → Option ℕ → Entry
+mask_of block (Some m) = entry.Mask block m
+mask_of block None = entry.Bad
 
 abbrev pub named_of : Name → ℕ → List ℕ → Entry
 named_of name.At block value = at_of block (number_of value)
@@ -46,9 +42,9 @@ named_of name.Ramp block value = ramp_of block (number_of value)
 named_of name.Mask block value = mask_of block (decimal_of value)
 named_of name.Unknown block value = entry.Bad
 
-abbrev pub with_block : Name → Parsed → List ℕ → Entry
-with_block n (parsed.Number block) value = named_of n block value
-with_block n parsed.Bad value = entry.Bad
+abbrev pub with_block : Name → Option ℕ → List ℕ → Entry
+with_block n (Some block) value = named_of n block value
+with_block n None value = entry.Bad
 
 -- three words: a name, a block in decimal digits, and a ratio as on the command line or a mask in decimal digits
 abbrev pub fields_of : List ℕ → List ℕ → List ℕ → Entry

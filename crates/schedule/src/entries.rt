@@ -14,8 +14,6 @@ ghost use Rattle.schedule.specs.Entries.{
 };
 
 use crate::words::word_at;
-use decimals::Number;
-use text::Parsed;
 
 // A change before a block: a ratio at once, a ratio by a ramp, or the mask from there on. Blank lines say
 // nothing; the others are bad.
@@ -56,8 +54,8 @@ fn at_of(block: u64, value: &[u8]) -> Entry
     ensures { result ≡ at_of block (number_of value.now) }
 {
     match decimals::number_of(value) {
-        Number::Value(x) => Entry::At(block, x),
-        Number::Bad => Entry::Bad,
+        Some(x) => Entry::At(block, x),
+        None => Entry::Bad,
     }
 }
 
@@ -65,8 +63,8 @@ fn ramp_of(block: u64, value: &[u8]) -> Entry
     ensures { result ≡ ramp_of block (number_of value.now) }
 {
     match decimals::number_of(value) {
-        Number::Value(x) => Entry::Ramp(block, x),
-        Number::Bad => Entry::Bad,
+        Some(x) => Entry::Ramp(block, x),
+        None => Entry::Bad,
     }
 }
 
@@ -74,8 +72,8 @@ fn mask_of(block: u64, value: &[u8]) -> Entry
     ensures { result ≡ mask_of block (decimal_of value.now) }
 {
     match text::decimal_of(value) {
-        Parsed::Number(m) => Entry::Mask(block, m),
-        Parsed::Bad => Entry::Bad,
+        Some(m) => Entry::Mask(block, m),
+        None => Entry::Bad,
     }
 }
 
@@ -96,8 +94,8 @@ fn fields_of(name: &[u8], block: &[u8], value: &[u8]) -> Entry
     ensures { result ≡ fields_of name.now block.now value.now }
 {
     match text::decimal_of(block) {
-        Parsed::Number(n) => named(name_of(name), n, value),
-        Parsed::Bad => Entry::Bad,
+        Some(n) => named(name_of(name), n, value),
+        None => Entry::Bad,
     }
 }
 

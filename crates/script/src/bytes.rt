@@ -1,5 +1,5 @@
 // Bytes as words: two hex digits each, run together, or `-` for none.
-use text::{Parsed, digit_of};
+use text::digit_of;
 
 // The most bytes of a line; what is lent behind them is not theirs.
 pub const MOST: usize = 131072;
@@ -64,10 +64,10 @@ pub fn bytes_step(bytes: &mut [u8], read: Bytes, byte: u8) -> Bytes {
 }
 
 // The word has ended: the number of the bytes in all.
-pub fn bytes_done(read: Bytes) -> Parsed {
+pub fn bytes_done(read: Bytes) -> Option<u64> {
     match read {
-        Bytes::Dash(k) => Parsed::Number(k as u64),
-        Bytes::Whole(k) => Parsed::Number(k as u64),
-        _ => Parsed::Bad,
+        Bytes::Dash(k) => Some(k as u64),
+        Bytes::Whole(k) => Some(k as u64),
+        _ => None,
     }
 }

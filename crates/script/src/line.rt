@@ -3,7 +3,6 @@ use crate::reader::{Input, Word, no_word, read_word};
 use crate::values::Values;
 use crate::words::{Command, begins_sinc, command_of, kinds_of, value_of};
 use system::System;
-use text::Parsed;
 
 // A line that is being read: the name of its command, the kinds of the words that are still to come,
 // and the numbers of the words after the command, in `count` places, all of them right where `good` is true.
@@ -45,7 +44,7 @@ fn with(line: Line, word: Word) -> Line {
     then.kinds = kinds_behind(line.kinds, sinc);
     then.more = input.byte != 10;
     then.good = false;
-    if let Parsed::Number(n) = number {
+    if let Some(n) = number {
         if k < 16 {
             then.values[k] = n;
             then.count = if (kind == 11) & !sinc { k + 4 } else { k + 1 };
@@ -66,7 +65,7 @@ fn with_log(line: Line, word: Word, ends: &mut [f64]) -> Line {
     then.input = input;
     then.more = input.byte != 10;
     then.good = false;
-    if let Parsed::Number(end) = number {
+    if let Some(end) = number {
         if k < ends.len() {
             ends[k] = text::of_bits(end);
             then.values[0] = values[0] + 1;

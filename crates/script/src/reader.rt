@@ -20,8 +20,8 @@ pub struct Input {
 pub struct Word {
     pub input: Input,
     pub name: u64,
-    pub whole: Run,
-    pub bits: Run,
+    pub whole: Option<Run>,
+    pub bits: Option<Run>,
     pub area: Area,
     pub first: usize,
     pub bytes: Bytes,
@@ -106,10 +106,7 @@ fn area_step(area: &mut [f64], next: &mut [f64], first: usize, read: Area, byte:
 // Whether an area has all the samples that are lent.
 fn is_full(area: &[f64], read: Area) -> bool {
     match read {
-        Area::Samples(k, run) => match run {
-            Run::Digits(count, _) => (count == 0) & (k >= area.len()),
-            Run::Bad => false,
-        },
+        Area::Samples(k, Some(run)) => (run.count == 0) & (k >= area.len()),
         _ => false,
     }
 }

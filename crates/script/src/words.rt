@@ -1,7 +1,7 @@
 // The words of the call script: which commands there are, and what each takes.
 use crate::bytes::bytes_done;
 use crate::reader::Word;
-use text::{Area, Parsed};
+use text::Area;
 
 #[derive(Clone, Copy)]
 pub enum Command {
@@ -167,12 +167,9 @@ fn place_of(name: u64) -> u64 {
     }
 }
 
-fn named(kind: u64, name: u64) -> Parsed {
+fn named(kind: u64, name: u64) -> Option<u64> {
     let place = place_of(name);
-    if place / 10 == kind {
-        return Parsed::Number(place % 10);
-    }
-    Parsed::Bad
+    (place / 10 == kind).then_some(place % 10)
 }
 
 fn is_allowed(kind: u64, n: u64) -> bool {
@@ -183,38 +180,29 @@ fn is_allowed(kind: u64, n: u64) -> bool {
     }
 }
 
-fn counted(kind: u64, number: Parsed) -> Parsed {
-    match number {
-        Parsed::Bad => Parsed::Bad,
-        Parsed::Number(n) => {
-            if is_allowed(kind, n) {
-                return number;
-            }
-            Parsed::Bad
-        }
-    }
+fn counted(kind: u64, number: Option<u64>) -> Option<u64> {
+    let n = number?;
+    is_allowed(kind, n).then_some(n)
 }
 
 // The samples of an area that has gone on in others: only a table may have any there.
-fn longer(kind: u64, first: u64, more: u64) -> Parsed {
+fn longer(kind: u64, first: u64, more: u64) -> Option<u64> {
     if more == 0 {
-        return Parsed::Number(first);
+        return Some(first);
     }
     if kind != 12 {
-        return Parsed::Bad;
+        return None;
     }
     if more > u64::MAX - first {
-        return Parsed::Bad;
+        return None;
     }
-    Parsed::Number(first + more)
+    Some(first + more)
 }
 
-fn samples_in(kind: u64, first: usize, area: Area) -> Parsed {
-    let Parsed::Number(more) = text::area_done(area) else {
-        return Parsed::Bad;
-    };
+fn samples_in(kind: u64, first: usize, area: Area) -> Option<u64> {
+    let more = text::area_done(area)?;
     if first == 0 {
-        return Parsed::Number(more);
+        return Some(more);
     }
     longer(kind, first as u64, more)
 }
@@ -230,20 +218,20 @@ pub fn begins_sinc(kind: u64, word: Word) -> bool {
 }
 
 // The number of a word before a colon.
-fn value_before(kind: u64, word: Word) -> Parsed {
+fn value_before(kind: u64, word: Word) -> Option<u64> {
     let whole = word.whole;
     if begins_sinc(kind, word) {
-        return Parsed::Number(0);
+        return Some(0);
     }
     if kind == 13 {
         return text::decimal_done(whole);
     }
-    Parsed::Bad
+    None
 }
 
 // The number of a word as its kind reads it: of an area how many samples it has, of bytes how many there
 // are with those of the words before it, of the `s` of a sinc 0.
-pub fn value_of(kind: u64, word: Word) -> Parsed {
+pub fn value_of(kind: u64, word: Word) -> Option<u64> {
     let whole = word.whole;
     let bits = word.bits;
     let area = word.area;
@@ -258,6 +246,6 @@ pub fn value_of(kind: u64, word: Word) -> Parsed {
         4 | 5 | 7 | 10 => named(kind, word.name),
         8 | 9 | 12 => samples_in(kind, word.first, area),
         14 | 15 => bytes_done(bytes),
-        _ => Parsed::Bad,
+        _ => None,
     }
 }

@@ -1,9 +1,7 @@
 // The words of the command line, one after the other.
 use crate::named::{Named, window_named};
-use decimals::Number;
 use programs::Common;
 use system::System;
-use text::Parsed;
 use windows::WindowFunction;
 
 // What was read so far: how many of POINTS, FACTOR, CUTOFF and WINDOW, and what they say; and the others.
@@ -30,7 +28,7 @@ fn bad(sys: &mut System, w: Words, what: &[u8], word: &[u8]) -> Words {
 }
 
 fn with_count(sys: &mut System, w: Words, word: &[u8]) -> Words {
-    let Parsed::Number(n) = text::decimal_of(word) else {
+    let Some(n) = text::decimal_of(word) else {
         return bad(
             sys,
             w,
@@ -50,7 +48,7 @@ fn with_count(sys: &mut System, w: Words, word: &[u8]) -> Words {
 }
 
 fn with_cutoff(sys: &mut System, w: Words, word: &[u8]) -> Words {
-    let Number::Value(x) = decimals::number_of(word) else {
+    let Some(x) = decimals::number_of(word) else {
         return bad(
             sys,
             w,

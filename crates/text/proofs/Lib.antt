@@ -2,6 +2,4 @@
 pub mod Patterns
 pub mod Glyphs
 pub mod Runs
-pub mod Held
-pub mod Signs
 pub mod ReadBack

@@ -12,11 +12,10 @@ use lib.Ieee.Bits.{of_bits-to_bits, to_bits-lt}
 use lib.ListN.{length, drop, set, length-set}
 use lib.Seq.{sets, sets-eq}
 use Rattle.text.specs.Digits.{glyph_of, digit_of, digits_of, hex_digits}
-use Rattle.text.specs.Words.{no_digits, step_digit, step_run}
+use Rattle.text.specs.Words.{digits, no_digits, step_digit, step_run}
 use Rattle.text.specs.Areas.{area_next, area_kept, area_done, Held, held_step, read_all, samples_text, area_text}
 use Rattle.text.specs.declared.words.Run.{Run}
-use Rattle.text.specs.declared.words.Run.TheVariants as run
-use Rattle.text.specs.declared.words.Parsed.TheVariants as parsed
+use Rattle.std.specs.Prelude.{Option, Some}
 use Rattle.text.specs.declared.areas.Area.{Area}
 use Rattle.text.specs.declared.areas.Area.TheVariants as area
 use Rattle.text.proofs.Glyphs.{glyph_back, positive, joined}
@@ -30,22 +29,22 @@ read_append h [] w = refl
 read_append h (c ∷ u) w = read_append (held_step h c) u w
 
 -- ---- one digit
-digit_run : (c v d : ℕ) → c < 16 → d < 16 → v * 16 + d < 2 ^ 64 → step_run 16 (run.Digits c v) (glyph_of d) ≡ run.Digits (c + 1) (v * 16 + d)
+digit_run : (c v d : ℕ) → c < 16 → d < 16 → v * 16 + d < 2 ^ 64 → step_run 16 (digits c v) (glyph_of d) ≡ digits (c + 1) (v * 16 + d)
 unfolding step_digit
 digit_run c v d h l s =
     rw (glyph_back d l, lt-ltb d 16 l, lt-ltb (v * 16 + d) (2 ^ 64) s, min-eq_left {n = c + 1} {m = 17} (omega arith))
 
 step_more : (k c v d : ℕ) (ys : List Float) → c < 16 → d < 16 → v * 16 + d < 2 ^ 64 → (c + 1 ≡ 16 → ⊥)
-    → held_step (held (area.Samples k (run.Digits c v)) ys) (glyph_of d) ≡ held (area.Samples k (run.Digits (c + 1) (v * 16 + d))) ys
+    → held_step (held (area.Samples k (digits c v)) ys) (glyph_of d) ≡ held (area.Samples k (digits (c + 1) (v * 16 + d))) ys
 step_more k c v d ys h l s n =
     let e = digit_run c v d h l s in
-    ap (λ (r : Run). held (area_next (length ys) k r) (area_kept ys k r)) e ∙ rw (ne_eqb (c + 1) 16 n)
+    ap (λ (r : Option Run). held (area_next (length ys) k r) (area_kept ys k r)) e ∙ rw (ne_eqb (c + 1) 16 n)
 
 step_last : (k c v d : ℕ) (ys : List Float) → d < 16 → v * 16 + d < 2 ^ 64 → c + 1 ≡ 16 → k < length ys
-    → held_step (held (area.Samples k (run.Digits c v)) ys) (glyph_of d) ≡ held (area.Samples (k + 1) no_digits) (set ys k (of_bits binary64 (v * 16 + d)))
+    → held_step (held (area.Samples k (digits c v)) ys) (glyph_of d) ≡ held (area.Samples (k + 1) no_digits) (set ys k (of_bits binary64 (v * 16 + d)))
 step_last k c v d ys l s n h =
     let e = digit_run c v d (omega arith) l s in
-    ap (λ (r : Run). held (area_next (length ys) k r) (area_kept ys k r)) e ∙ rw (eq-eqb (c + 1) 16 n, lt-ltb k (length ys) h)
+    ap (λ (r : Option Run). held (area_next (length ys) k r) (area_kept ys k r)) e ∙ rw (eq-eqb (c + 1) 16 n, lt-ltb k (length ys) h)
 
 -- ---- one sample: j digits are left of it
 below : (v d p : ℕ) → d < 16 → 0 < p → (v + 1) * (16 * p) ≤ 2 ^ 64 → ((v * 16 + d + 1) * p ≤ 2 ^ 64) × (v * 16 + d < 2 ^ 64)
@@ -56,7 +55,7 @@ below v d p l q h =
     (omega arith, omega arith)
 
 one_sample : (j k c v n : ℕ) (ys : List Float) → c + suc j ≡ 16 → (v + 1) * 16 ^ suc j ≤ 2 ^ 64 → k < length ys
-    → read_all (held (area.Samples k (run.Digits c v)) ys) (digits_of (suc j) n) ≡ held (area.Samples (k + 1) no_digits) (set ys k (of_bits binary64 (v * 16 ^ suc j + n % 16 ^ suc j)))
+    → read_all (held (area.Samples k (digits c v)) ys) (digits_of (suc j) n) ≡ held (area.Samples (k + 1) no_digits) (set ys k (of_bits binary64 (v * 16 ^ suc j + n % 16 ^ suc j)))
 unfolding read_all digits_of
 one_sample zero k c v n ys e b h =
     let d = n / 16 ^ 0 % 16 in
@@ -127,9 +126,9 @@ unfolding area_text samples_text
 some_back x xs ys f h = started x (samples_text xs) ys ∙ samples_back (x ∷ xs) ys 0 f (omega arith)
 
 pub area_back : (xs ys : List Float) → AllFit xs → length xs ≤ length ys
-    → (area_done (read_in xs ys).read ≡ parsed.Number (length xs)) × ((read_in xs ys).samples ≡ xs ++ drop (length xs) ys)
+    → (area_done (read_in xs ys).read ≡ Some (length xs)) × ((read_in xs ys).samples ≡ xs ++ drop (length xs) ys)
 area_back [] ys f h = (ap (λ (s : Held). area_done s.read) (empty_back ys), ap (λ (s : Held). s.samples) (empty_back ys))
 area_back (x ∷ xs) ys f h =
     let e = some_back x xs ys f h in
     let z : 0 + suc (length xs) ≡ suc (length xs) = omega arith in
-    (ap (λ (s : Held). area_done s.read) e ∙ ap parsed.Number z, ap (λ (s : Held). s.samples) e ∙ sets-eq (x ∷ xs) ys 0 (omega arith) ∙ ap (λ (j : ℕ). (x ∷ xs) ++ drop j ys) z)
+    (ap (λ (s : Held). area_done s.read) e ∙ ap Some z, ap (λ (s : Held). s.samples) e ∙ sets-eq (x ∷ xs) ys 0 (omega arith) ∙ ap (λ (j : ℕ). (x ∷ xs) ++ drop j ys) z)

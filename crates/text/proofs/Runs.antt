@@ -11,21 +11,20 @@ use lib.Dec.{T, eqb, ltb, lit<, lit≤}
 use lib.ListN.{length, get_or, take, length-append}
 use lib.Seq.{take-suc, take-length}
 use Rattle.text.specs.Digits.{digit_of, digits_of, hex_digits, numeral_from}
-use Rattle.text.specs.Words.{numeral, only_digits, decimal_of, hex_of, run_of, no_digits, step_digit, step_run, decimal_done, hex_done}
+use Rattle.text.specs.Words.{numeral, only_digits, decimal_of, hex_of, digits, run_of, no_digits, step_digit, step_run, decimal_done, hex_done}
 use Rattle.text.specs.declared.words.Run.{Run}
-use Rattle.text.specs.declared.words.Run.TheVariants as run
-use Rattle.text.specs.declared.words.Parsed.TheVariants as parsed
+use Rattle.std.specs.Prelude.{Option, Some, None}
 use Rattle.text.proofs.Glyphs.{glyph_back, length_digits, numeral_digits, numeral_snoc}
 
 -- ---- one byte more: what the code's tests say. q is the room for the number before the digit d
 module _ (b n v d : ℕ) where
   -- the byte is no digit of the base
-  pub no_digit : b ≤ d → run.Bad ≡ step_digit b n v d
+  pub no_digit : b ≤ d → None ≡ step_digit b n v d
   unfolding step_digit
   no_digit h = rw (le-ltb d b h)
 
   -- the number would pass 2 ^ 64 - 1
-  pub too_large : 0 < b → d < b → d ≤ 2 ^ 64 - 1 → (2 ^ 64 - 1 - d) / b < v → run.Bad ≡ step_digit b n v d
+  pub too_large : 0 < b → d < b → d ≤ 2 ^ 64 - 1 → (2 ^ 64 - 1 - d) / b < v → None ≡ step_digit b n v d
   unfolding step_digit
   too_large p h l o =
       let big = (div-lt_iff_lt-mul p).0 o in
@@ -36,12 +35,12 @@ module _ (b n v d : ℕ) where
       let small = (le-div_iff_mul-le p).0 o in
       omega arith
 
-  pub one_digit : (k : ℕ) → 0 < b → d < b → d ≤ 2 ^ 64 - 1 → v ≤ (2 ^ 64 - 1 - d) / b → k ≡ min (n + 1) 17 → run.Digits k (v * b + d) ≡ step_digit b n v d
+  pub one_digit : (k : ℕ) → 0 < b → d < b → d ≤ 2 ^ 64 - 1 → v ≤ (2 ^ 64 - 1 - d) / b → k ≡ min (n + 1) 17 → digits k (v * b + d) ≡ step_digit b n v d
   unfolding step_digit
   one_digit k p h l o e = rw (e, lt-ltb d b h, lt-ltb (v * b + d) (2 ^ 64) (fitting p l o))
 
-pub step_is : (b : ℕ) (r : Run) (n v c d : ℕ) (x : Run) → r ≡ run.Digits n v → d ≡ digit_of c → x ≡ step_digit b n v d → x ≡ step_run b r c
-step_is b r n v c d x k e h = rw k (h ∙ ap (step_digit b n v) e)
+pub step_is : (b : ℕ) (o : Option Run) (r : Run) (c d : ℕ) (x : Option Run) → o ≡ Some r → d ≡ digit_of c → x ≡ step_digit b r.count r.number d → x ≡ step_run b o c
+step_is b o r c d x k e h = rw k (h ∙ ap (step_digit b r.count r.number) e)
 
 -- ---- a word with one byte more
 all_snoc : (b c : ℕ) (w : List ℕ) → only_digits b (w ++ (c ∷ [])) ≡ (only_digits b w && ltb (digit_of c) b)
@@ -78,29 +77,17 @@ module _ (b c : ℕ) (w : List ℕ) (p : 0 < b) where
       rw (all_snoc b c w, numeral_snoc b 0 c w, length_snoc c w) (go (only_digits b w) (ltb (numeral b w) (2 ^ 64)) refl)
     where
       go : (s t : Bool) → ltb (numeral b w) (2 ^ 64) ≡ t
-          → cond (s && ltb (digit_of c) b && ltb (numeral b w * b + digit_of c) (2 ^ 64)) (run.Digits (min (length w + 1) 17) (numeral b w * b + digit_of c)) run.Bad
-          ≡ step_run b (cond (s && t) (run.Digits (min (length w) 17) (numeral b w)) run.Bad) c
+          → cond (s && ltb (digit_of c) b && ltb (numeral b w * b + digit_of c) (2 ^ 64)) (digits (min (length w + 1) 17) (numeral b w * b + digit_of c)) None
+          ≡ step_run b (cond (s && t) (digits (min (length w) 17) (numeral b w)) None) c
       go true true e = rw (more (length w))
       go true false e = rw (le-ltb (numeral b w * b + digit_of c) (2 ^ 64) (stays (ltb-false (numeral b w) (2 ^ 64) e)), and-false (ltb (digit_of c) b))
       go false t e = refl
 
--- ---- the loop that reads a word: r is what its first k bytes come to
-pub record Come (b : ℕ) (w : List ℕ) (r : Run) (k : ℕ) : Type 0 where
-  pub to : r ≡ run_of b (take k w)
-
-pub come_none : (b : ℕ) (w : List ℕ) (r : Run) → r ≡ no_digits → Come b w r 0
-unfolding only_digits numeral_from
-come_none b w r e = record { to = e }
-
-pub come_next : (b : ℕ) (w : List ℕ) (r s : Run) (k : ℕ) → 0 < b → k < length w → Come b w r k → s ≡ step_run b r (get_or w k 0) → Come b w s (k + 1)
-come_next b w r s k p h q e = record {
-  to =
-      e ∙ ap (λ (x : Run). step_run b x (get_or w k 0)) q.to ∙ sym (run_next b (get_or w k 0) (take k w) p)
-      ∙ ap (λ (x : List ℕ). run_of b x) (sym (take-suc w k 0 h) ∙ ap (λ (j : ℕ). take j w) (sym (add-one k)));
-}
-
-pub come_whole : (b : ℕ) (w : List ℕ) (r : Run) (k : ℕ) → k ≡ length w → Come b w r k → r ≡ run_of b w
-come_whole b w r k e q = q.to ∙ ap (λ (x : List ℕ). run_of b x) (ap (λ (j : ℕ). take j w) e ∙ take-length w)
+-- ---- the loop that reads a word: r is what its first k bytes come to, and s what one byte more comes to
+pub come_next : (b : ℕ) (w : List ℕ) (r s : Option Run) (k : ℕ) → 0 < b → k < length w → r ≡ run_of b (take k w) → s ≡ step_run b r (get_or w k 0) → s ≡ run_of b (take (k + 1) w)
+come_next b w r s k p h q e =
+    e ∙ ap (λ (x : Option Run). step_run b x (get_or w k 0)) q ∙ sym (run_next b (get_or w k 0) (take k w) p)
+    ∙ ap (λ (x : List ℕ). run_of b x) (sym (take-suc w k 0 h) ∙ ap (λ (j : ℕ). take j w) (sym (add-one k)))
 
 -- ---- a word that has ended
 some : (n : ℕ) → ltb 0 (min n 17) ≡ ltb 0 n
@@ -113,7 +100,7 @@ some n = go (ltb 0 n) refl
 pub decimal_whole : (w : List ℕ) → decimal_done (run_of 10 w) ≡ decimal_of w
 decimal_whole w = go (only_digits 10 w) (ltb (numeral 10 w) (2 ^ 64))
   where
-    go : (s t : Bool) → decimal_done (cond (s && t) (run.Digits (min (length w) 17) (numeral 10 w)) run.Bad) ≡ cond (s && ltb 0 (length w) && t) (parsed.Number (numeral 10 w)) parsed.Bad
+    go : (s t : Bool) → decimal_done (cond (s && t) (digits (min (length w) 17) (numeral 10 w)) None) ≡ cond (s && ltb 0 (length w) && t) (Some (numeral 10 w)) None
     go true true = rw (some (length w), and-true (ltb 0 (length w)))
     go true false = rw (and-false (ltb 0 (length w)))
     go false t = refl
@@ -148,7 +135,7 @@ pub hex_whole : (w : List ℕ) → hex_done (run_of 16 w) ≡ hex_of w
 hex_whole w = go (only_digits 16 w) (ltb (numeral 16 w) (2 ^ 64)) refl refl
   where
     go : (s t : Bool) → only_digits 16 w ≡ s → ltb (numeral 16 w) (2 ^ 64) ≡ t
-        → hex_done (cond (s && t) (run.Digits (min (length w) 17) (numeral 16 w)) run.Bad) ≡ cond (s && eqb (length w) 16) (parsed.Number (numeral 16 w)) parsed.Bad
+        → hex_done (cond (s && t) (digits (min (length w) 17) (numeral 16 w)) None) ≡ cond (s && eqb (length w) 16) (Some (numeral 16 w)) None
     go true true e f = rw (sixteen (length w))
     go true false e f = rw (ne_eqb (length w) 16 (λ q. absurd (not-le_of_lt (subst (λ (k : ℕ). numeral 16 w < (0 + 1) * 16 ^ k) q (below 16 0 w e)) (ltb-false (numeral 16 w) (2 ^ 64) f))))
     go false t e f = refl
@@ -162,5 +149,5 @@ all_digits (suc k) n =
     rw (glyph_back d (mod-lt (n / 16 ^ k) (lit< tt)), lt-ltb d 16 (mod-lt (n / 16 ^ k) (lit< tt))) (all_digits k n)
 
 -- the 16 hex digits of a number below 2 ^ 64 are a bit pattern, and that number's
-pub hex_back : (n : ℕ) → n < 2 ^ 64 → hex_of (hex_digits n) ≡ parsed.Number n
-hex_back n h = rw (all_digits 16 n, length_digits 16 n, numeral_digits 16 n 0, mod-eq_of_lt {n = n} {m = 2 ^ 64} h) (ap parsed.Number (omega arith))
+pub hex_back : (n : ℕ) → n < 2 ^ 64 → hex_of (hex_digits n) ≡ Some n
+hex_back n h = rw (all_digits 16 n, length_digits 16 n, numeral_digits 16 n 0, mod-eq_of_lt {n = n} {m = 2 ^ 64} h) (ap Some (omega arith))

@@ -1,25 +1,22 @@
 -- Areas as words, byte by byte: "An area is its samples' digits run together, or `-` when empty." Definitions only.
-use Rattle.std.specs.Prelude.{cond, List, [], ◌∷◌, ◌++◌, ℕ, ◌+◌, eqb, ltb, Float, length, set}
+use Rattle.std.specs.Prelude.{cond, List, [], ◌∷◌, ◌++◌, ℕ, ◌+◌, eqb, ltb, Float, length, set, Option, Some, None}
 use Rattle.std.specs.Float.{binary64}
 use Rattle.std.specs.Float.Ieee.{to_bits, of_bits}
 use Rattle.text.specs.Digits.{hex_digits}
 use Rattle.text.specs.Words.{no_digits, step_run}
 use Rattle.text.specs.declared.words.Run.{Run}
-use Rattle.text.specs.declared.words.Run.TheVariants as run
-use Rattle.text.specs.declared.words.Parsed.{Parsed}
-use Rattle.text.specs.declared.words.Parsed.TheVariants as parsed
 use Rattle.text.specs.declared.areas.Area.{Area}
 use Rattle.text.specs.declared.areas.Area.TheVariants as area
 
 -- after a digit of the sample at the place k, where there is room for n samples: sixteen digits are the sample
-abbrev pub area_next : ℕ → ℕ → Run → Area
-area_next n k (run.Digits count v) = cond (eqb count 16) (cond (ltb k n) (area.Samples (k + 1) no_digits) area.Bad) (area.Samples k (run.Digits count v))
-area_next n k run.Bad = area.Bad
+abbrev pub area_next : ℕ → ℕ → Option Run → Area
+area_next n k (Some r) = cond (eqb r.count 16) (cond (ltb k n) (area.Samples (k + 1) no_digits) area.Bad) (area.Samples k (Some r))
+area_next n k None = area.Bad
 
 -- what the area then holds
-abbrev pub area_kept : List Float → ℕ → Run → List Float
-area_kept xs k (run.Digits count v) = cond (eqb count 16) (set xs k (of_bits binary64 v)) xs
-area_kept xs k run.Bad = xs
+abbrev pub area_kept : List Float → ℕ → Option Run → List Float
+area_kept xs k (Some r) = cond (eqb r.count 16) (set xs k (of_bits binary64 r.number)) xs
+area_kept xs k None = xs
 
 -- one byte more of the word; 45 is `-`
 abbrev pub area_step : ℕ → Area → ℕ → Area
@@ -35,15 +32,15 @@ area_after xs (area.Samples k r) c = area_kept xs k (step_run 16 r c)
 area_after xs area.Bad c = xs
 
 -- the word has ended: the number of its samples, where the last of them is whole
-abbrev pub samples_done : ℕ → Run → Parsed
-samples_done k (run.Digits count v) = cond (eqb count 0) (parsed.Number k) parsed.Bad
-samples_done k run.Bad = parsed.Bad
+abbrev pub samples_done : ℕ → Option Run → Option ℕ
+samples_done k (Some r) = cond (eqb r.count 0) (Some k) None
+samples_done k None = None
 
-abbrev pub area_done : Area → Parsed
-area_done area.Start = parsed.Bad
-area_done area.Dash = parsed.Number 0
+abbrev pub area_done : Area → Option ℕ
+area_done area.Start = None
+area_done area.Dash = Some 0
 area_done (area.Samples k r) = samples_done k r
-area_done area.Bad = parsed.Bad
+area_done area.Bad = None
 
 -- ---- a whole word
 -- what reading has come to: how far the word is, and what the area holds

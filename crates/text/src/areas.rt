@@ -3,7 +3,7 @@ ghost use Rattle.std.specs.Prelude.{◌≡◌, length};
 ghost use Rattle.text.specs.Areas.{area_next, area_kept, area_step, area_after, area_done};
 
 use crate::bits::of_bits;
-use crate::words::{Parsed, Run, hex_step, no_digits};
+use crate::words::{Run, hex_step, no_digits};
 
 // What a word has come to as an area: nothing yet, a lone `-`, so many samples and the digits of the
 // next, or that it is none or too long.
@@ -11,25 +11,25 @@ use crate::words::{Parsed, Run, hex_step, no_digits};
 pub enum Area {
     Start,
     Dash,
-    Samples(usize, Run),
+    Samples(usize, Option<Run>),
     Bad,
 }
 
 // After a digit of the sample at the place k: sixteen digits are the sample.
-fn next(area: &mut [f64], k: usize, run: Run) -> Area
+fn next(area: &mut [f64], k: usize, run: Option<Run>) -> Area
     ensures state { result ≡ area_next (length area.old) k run }
     ensures stored { area.new ≡ area_kept area.old k run }
 {
-    let Run::Digits(count, number) = run else {
+    let Some(digits) = run else {
         return Area::Bad;
     };
-    if count != 16 {
+    if digits.count != 16 {
         return Area::Samples(k, run);
     }
     if k >= area.len() {
         return Area::Bad;
     }
-    area[k] = of_bits(number);
+    area[k] = of_bits(digits.number);
     Area::Samples(k + 1, no_digits())
 }
 
@@ -53,22 +53,12 @@ pub fn area_step(area: &mut [f64], read: Area, byte: u8) -> Area
 }
 
 // The word has ended: the number of its samples.
-pub fn area_done(read: Area) -> Parsed
+pub fn area_done(read: Area) -> Option<u64>
     ensures { result ≡ area_done read }
 {
     match read {
-        Area::Start => Parsed::Bad,
-        Area::Dash => Parsed::Number(0),
-        Area::Samples(k, run) => match run {
-            Run::Digits(count, _) => {
-                if count == 0 {
-                    Parsed::Number(k as u64)
-                } else {
-                    Parsed::Bad
-                }
-            }
-            Run::Bad => Parsed::Bad,
-        },
-        Area::Bad => Parsed::Bad,
+        Area::Dash => Some(0),
+        Area::Samples(k, run) => (run?.count == 0).then_some(k as u64),
+        Area::Start | Area::Bad => None,
     }
 }

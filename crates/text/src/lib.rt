@@ -13,5 +13,5 @@ pub use bits::{bits_of, of_bits};
 pub use digits::{digit_of, glyph_of, put_hex};
 pub use signed::size_of;
 pub use words::{
-    Parsed, Run, decimal_done, decimal_of, decimal_step, hex_done, hex_of, hex_step, no_digits,
+    Run, decimal_done, decimal_of, decimal_step, hex_done, hex_of, hex_step, no_digits,
 };

@@ -4,11 +4,5 @@ ghost use Rattle.std.specs.Prelude.{◌≡◌, nat_abs};
 pub fn size_of(z: i64) -> u64
     ensures { result ≡ nat_abs z }
 {
-    if z >= 0 {
-        return z as u64;
-    }
-    if z > -9223372036854775808 {
-        return (-z) as u64;
-    }
-    9223372036854775808
+    z.unsigned_abs()
 }

@@ -3,8 +3,8 @@ use Rattle.schedule.proofs.Lines.{chosen}
 use Rattle.schedule.specs.Entries.{at_of}
 use Rattle.schedule.proofs.entries.at_of.Goals as goal
 
-pub returns-in-Value : goal.returns-in-Value
-returns-in-Value c = chosen (at_of c.args.block) _ _ _ c.number_of.ensures c.in-Value.is
+pub returns-in-Some : goal.returns-in-Some
+returns-in-Some c = chosen (at_of c.args.block) _ _ _ c.number_of.ensures c.in-Some.is
 
-pub returns-in-Bad : goal.returns-in-Bad
-returns-in-Bad c = chosen (at_of c.args.block) _ _ _ c.number_of.ensures c.in-Bad.is
+pub returns-in-None : goal.returns-in-None
+returns-in-None c = chosen (at_of c.args.block) _ _ _ c.number_of.ensures c.in-None.is

@@ -3,8 +3,8 @@ use Rattle.schedule.proofs.Lines.{chosen}
 use Rattle.schedule.specs.Entries.{mask_of}
 use Rattle.schedule.proofs.entries.mask_of.Goals as goal
 
-pub returns-in-Number : goal.returns-in-Number
-returns-in-Number c = chosen (mask_of c.args.block) _ _ _ c.decimal_of.ensures c.in-Number.is
+pub returns-in-Some : goal.returns-in-Some
+returns-in-Some c = chosen (mask_of c.args.block) _ _ _ c.decimal_of.ensures c.in-Some.is
 
-pub returns-in-Bad : goal.returns-in-Bad
-returns-in-Bad c = chosen (mask_of c.args.block) _ _ _ c.decimal_of.ensures c.in-Bad.is
+pub returns-in-None : goal.returns-in-None
+returns-in-None c = chosen (mask_of c.args.block) _ _ _ c.decimal_of.ensures c.in-None.is

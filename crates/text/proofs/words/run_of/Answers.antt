@@ -1,13 +1,12 @@
 -- `text::words::run_of` meets its contract: each turn reads one byte more. Assumes nothing.
-use native.Mathlib.Omega.{arith}
-use Rattle.text.proofs.Runs.{come_none, come_next, come_whole}
+use Rattle.text.specs.Digits.{numeral_from}
+use Rattle.text.specs.Words.{only_digits}
+use Rattle.text.proofs.Runs.{come_next}
 use Rattle.text.proofs.words.run_of.Goals as goal
 
-pub loop-k-init : goal.loop-k-init
-loop-k-init c = (omega arith, come_none _ _ _ c.no_digits-run.ensures)
+pub loop-byte-init : goal.loop-byte-init
+unfolding only_digits numeral_from
+loop-byte-init c = c.no_digits-run.ensures
 
-pub loop-k-preserved : goal.loop-k-preserved
-loop-k-preserved c = (omega arith, come_next _ _ _ _ _ (omega arith) (omega arith) c.loop-k.invariant.1 c.step-run.ensures)
-
-pub returns : goal.returns
-returns c = come_whole _ _ _ _ (omega arith) c.loop-k.invariant.1
+pub loop-byte-preserved : goal.loop-byte-preserved
+loop-byte-preserved c = come_next _ _ _ _ _ c.requires c.loop-byte-test.true c.loop-byte.invariant c.step-run.ensures

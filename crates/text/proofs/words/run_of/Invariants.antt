@@ -1,11 +1,7 @@
 -- `text::words::run_of` meets its contract: each turn reads one byte more. Assumes nothing.
-use Prim.Native.Nat.{◌≤◌, ◌-◌}
-use lib.ListN.{length}
-use Rattle.text.proofs.Runs.{Come}
+use Rattle.std.proofs.Common.{◌≡◌, take}
+use Rattle.text.specs.Words.{run_of}
 use Rattle.text.proofs.words.run_of.Given as goal
 
-abbrev pub invariant-loop-k : goal.invariant-loop-k
-invariant-loop-k l = (l.k ≤ length l.word) × Come l.base l.word l.run l.k
-
-abbrev pub decreases-loop-k : goal.decreases-loop-k
-decreases-loop-k l = length l.word - l.k
+abbrev pub invariant-loop-byte : goal.invariant-loop-byte
+invariant-loop-byte l = l.run ≡ run_of l.base (take l.byte-index l.word)
