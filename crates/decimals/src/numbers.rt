@@ -42,7 +42,7 @@ fn counting(before: &[u8]) -> usize
     if n != 1 {
         return n;
     }
-    if before[0] == 48 { 0 } else { 1 }
+    if before[0] == b'0' { 0 } else { 1 }
 }
 
 // Digits before and behind a point, up to 19 in all: their number over a power of ten.
@@ -87,19 +87,16 @@ fn bits(digits: &[u8]) -> Option<f64>
 pub fn number_of(word: &[u8]) -> Option<f64>
     ensures { result ≡ number_of word.now }
 {
-    let n = word.len();
-    if n == 0 {
+    if word.len() == 0 {
         return None;
     }
-    if word[0] == 120 {
+    if word[0] == b'x' {
         return bits(&word[1..]);
     }
-    let point = scan::find(word, 0, n, 46);
-    if point < n {
+    if let Some(point) = scan::find(word, b'.') {
         return decimal(&word[..point], &word[point + 1..]);
     }
-    let bar = scan::find(word, 0, n, 47);
-    if bar < n {
+    if let Some(bar) = scan::find(word, b'/') {
         return quotient_of(&word[..bar], &word[bar + 1..]);
     }
     whole(word)

@@ -41,7 +41,7 @@ fn write_word(sys: &mut System, fd: i32, space: usize, word: &[u8]) -> bool {
 // A word: --status is left out, with its value.
 fn tell_word(sys: &mut System, fd: i32, t: Telling, word: &[u8]) -> Telling {
     let n = word.len();
-    let end = bytes_of(word, scan::find(word, 0, n, 61));
+    let end = scan::find(word, b'=').unwrap_or(n);
     if number_of(&word[..end]) == STATUS {
         return Telling {
             skip: end == n,

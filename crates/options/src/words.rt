@@ -134,7 +134,7 @@ fn is_right(sys: &mut System, r: Reading, name: usize, joined: bool, word: &[u8]
 
 fn read_word(sys: &mut System, r: Reading, word: &[u8]) -> Reading {
     let n = word.len();
-    let end = printer::bytes_of(word, scan::find(word, 0, n, 61));
+    let end = scan::find(word, b'=').unwrap_or(n);
     let name = number_of(&word[..end]);
     if !is_right(sys, r, name, end < n, word) {
         return stopped(r);

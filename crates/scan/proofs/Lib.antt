@@ -1,2 +1,2 @@
--- A byte's place in a list: proofs.
-mod Steps
+-- A byte's place in a list: laws for callers. Assumes nothing.
+pub mod Places

@@ -1,11 +1,11 @@
--- A part of a list, and where a byte first stands in a list. Definitions only.
-use Rattle.std.specs.Prelude.{ℕ, suc, cond, List, [], ◌∷◌, take, drop, ◌==◌}
+-- Where a byte first stands in a list. Definitions only.
+use Rattle.std.specs.Prelude.{ℕ, cond, List, length, ◌==◌, nat_lt, Option, Some, None}
+use Rattle.std.specs.List.{position_or_len}
 
 -- the place of the first b, or the list's length where there is none
-unfoldable pub index_of : ℕ → List ℕ → ℕ
-index_of b [] = 0
-index_of b (x ∷ xs) = cond (x == b) 0 (suc (index_of b xs))
+abbrev pub index_of : ℕ → List ℕ → ℕ
+index_of b xs = position_or_len (λ x. x == b) xs
 
--- the elements at the places from `from` up to, not including, `to`
-unfoldable pub slice : ℕ → ℕ → List ℕ → List ℕ
-slice from to xs = drop from (take to xs)
+-- the place of the first b, if there is one
+abbrev pub place_of : ℕ → List ℕ → Option ℕ
+place_of b xs = cond (nat_lt (index_of b xs) (length xs)) (Some (index_of b xs)) None

@@ -1,20 +1,13 @@
-// A search for a byte in a part of a slice: the place of the first one, or the part's end.
+// A search for a byte in a slice.
 #![tactic(auto)]
 
-ghost use Rattle.std.specs.Prelude.{◌≡◌, ◌+◌, ◌≤◌, length};
-ghost use Rattle.scan.specs.Bytes.{index_of, slice};
+ghost use Rattle.std.specs.Prelude.{◌≡◌, ◌<◌, length, IfSome};
+ghost use Rattle.scan.specs.Bytes.{place_of};
 
-// The place of the first `byte` of s[from..to], or `to` where there is none. Only our own crates call this.
-pub fn find(s: &[u8], from: usize, to: usize, byte: u8) -> usize
-    requires ordered { from ≤ to }
-    requires within { to ≤ length s.now }
-    ensures value { result ≡ from + index_of byte (slice from to s.now) }
-    ensures bound { result ≤ to }
+// The place of the first `byte`, if there is one.
+pub fn find(s: &[u8], byte: u8) -> Option<usize>
+    ensures place { result ≡ place_of byte s.now }
+    ensures bound { IfSome result (λ i. i < length s.now) }
 {
-    for i in from..to {
-        if s[i] == byte {
-            return i;
-        }
-    }
-    to
+    s.iter().position(|b| *b == byte)
 }

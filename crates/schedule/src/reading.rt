@@ -144,9 +144,8 @@ fn turn(sys: &mut System, fd: i32, bytes: &mut [u8], c: Cursor) -> Step {
     let k = kept(c, bytes.len());
     let at = k.at;
     let end = k.end;
-    let to = scan::find(bytes, at, end, 10);
-    if to < end {
-        return line_read(bytes, k, to, to + 1);
+    if let Some(n) = scan::find(&bytes[at..end], b'\n') {
+        return line_read(bytes, k, at + n, at + n + 1);
     }
     if k.ended {
         return last_read(bytes, k);
