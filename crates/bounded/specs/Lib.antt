@@ -1,0 +1,2 @@
+-- A text with room for so many bytes. Definitions only.
+pub mod Added
