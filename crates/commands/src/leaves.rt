@@ -1,7 +1,7 @@
 // The small arithmetic: kernels, blends and their weights, grid points, cutoffs.
 use crate::said::{Said, float, joined, ok, refused, said_of, signed, whole};
 use error::Refusal;
-use interpolation::{Point, Times1, Times2, Times3, Times4};
+use interpolation::Point;
 use printer::samples_of;
 use script::values::{Values, count_at, float_at, number_at, window_at};
 
@@ -59,29 +59,29 @@ fn point(said: Said, p: Point) -> Said {
 
 fn near_1(t: f64, factor: u64) -> Said {
     match interpolation::get_nearest_time(t, factor) {
-        Times1::At(a) => point(ok(), a),
-        Times1::Refused(r) => refused(r),
+        Ok(a) => point(ok(), a),
+        Err(r) => refused(r),
     }
 }
 
 fn near_2(t: f64, factor: u64) -> Said {
     match interpolation::get_nearest_times_2(t, factor) {
-        Times2::At(a, b) => point(point(ok(), a), b),
-        Times2::Refused(r) => refused(r),
+        Ok([a, b]) => point(point(ok(), a), b),
+        Err(r) => refused(r),
     }
 }
 
 fn near_3(t: f64, factor: u64) -> Said {
     match interpolation::get_nearest_times_3(t, factor) {
-        Times3::At(a, b, c) => point(point(point(ok(), a), b), c),
-        Times3::Refused(r) => refused(r),
+        Ok([a, b, c]) => point(point(point(ok(), a), b), c),
+        Err(r) => refused(r),
     }
 }
 
 fn near_4(t: f64, factor: u64) -> Said {
     match interpolation::get_nearest_times_4(t, factor) {
-        Times4::At(a, b, c, d) => point(point(point(point(ok(), a), b), c), d),
-        Times4::Refused(r) => refused(r),
+        Ok([a, b, c, d]) => point(point(point(point(ok(), a), b), c), d),
+        Err(r) => refused(r),
     }
 }
 

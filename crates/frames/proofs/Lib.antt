@@ -1,5 +1,4 @@
 -- Laws of the frames. Assumes nothing.
-pub mod Values
 pub mod Frames
 pub mod Run
 pub mod Apart

@@ -1,5 +1,5 @@
 -- Document 01, "Block run", 4, and document 02, R-4: the frames of one channel, and of all. `table` is the lent table. Definitions only.
-use Rattle.std.specs.Prelude.{List, [], ◌∷◌, ◌++◌, ℕ, zero, suc, Float, take, drop}
+use Rattle.std.specs.Prelude.{List, [], ◌∷◌, ◌++◌, ℕ, zero, suc, Float, take, drop, Option, Some, None}
 use Rattle.std.proofs.Math.Seq.{paste}
 use Rattle.exact.specs.Doubles.{zero_f}
 use Rattle.asynchro_fast.specs.declared.PolynomialDegree.{PolynomialDegree}
@@ -9,7 +9,6 @@ use Rattle.kinds.specs.declared.Kind.{Kind}
 use Rattle.area.specs.Parts.{part_of, each_part}
 use Rattle.channel.specs.Mask.{is_on, where_on}
 use Rattle.path.specs.declared.Place.{Place}
-use Rattle.path.specs.declared.Place.TheVariants.{At, Out}
 use Rattle.path.specs.Path.{path_at}
 use Rattle.path.specs.declared.Site.{Site}
 use Rattle.path.specs.declared.Site.TheVariants.{Kernel, Grid}
@@ -19,10 +18,10 @@ use Rattle.path.specs.Sites.{site_of}
 use Rattle.sinc_value.specs.Values.{sum_to, spots_value}
 
 -- the kernel on its L neighbours; out of reach 0.0, where no accepted block comes
-unfoldable pub kernel_at : PolynomialDegree → List Float → Place → Float
+unfoldable pub kernel_at : PolynomialDegree → List Float → Option Place → Float
 unfolding interp_of
-kernel_at degree work (At s x) = interp_of degree x (take (points_of degree) (drop s work))
-kernel_at degree work Out = zero_f
+kernel_at degree work (Some p) = interp_of degree p.frac (take (points_of degree) (drop p.start work))
+kernel_at degree work None = zero_f
 
 -- a frame's value on the working area `work` of one channel
 unfoldable pub value_at : List Float → List Float → Site → Float

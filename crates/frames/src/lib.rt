@@ -4,32 +4,22 @@
 ghost use Rattle.std.specs.Prelude.{◌≡◌, ◌+◌, ◌*◌, ◌<◌, ◌≤◌, length, set, true};
 ghost use Rattle.kinds.specs.Kinds.{points_of, kind_holds, table_of};
 ghost use Rattle.channel.specs.Mask.{where_on};
-ghost use Rattle.path.specs.Turns.{Reaches, Lies};
-ghost use Rattle.frames.specs.Run.{kernel_at, value_at, ran_all};
+ghost use Rattle.path.specs.Turns.{Lies};
+ghost use Rattle.frames.specs.Run.{value_at, ran_all};
 ghost use Rattle.frames.specs.Turns.{wrote_all};
 
-use asynchro_fast::PolynomialDegree;
 use kinds::Kind;
-use path::{Moment, Place, Site};
-
-// A kernel's value in one channel.
-fn kernel_value(degree: PolynomialDegree, work: &[f64], p: Place) -> f64
-    requires { Reaches degree p (length work.now) }
-    ensures { result ≡ kernel_at degree work.now p }
-{
-    match p {
-        Place::At(s, x) => kernel_runs::kernel_at(degree, work, s, x),
-        Place::Out => 0.0,
-    }
-}
+use path::{Moment, Site};
 
 // A frame's value in one channel.
+#[tactic(auto, unfolding(crate::specs::Run::value_at, crate::specs::Run::kernel_at, kernel_runs::specs::Runs::kernel_on))]
 fn value(table: &[f64], work: &[f64], site: Site) -> f64
     requires { Lies site (length work.now) (length table.now) }
     ensures { result ≡ value_at table.now work.now site }
 {
     match site {
-        Site::Kernel(degree, p) => kernel_value(degree, work, p),
+        Site::Kernel(degree, Some(p)) => kernel_runs::kernel_at(degree, work, p.start, p.frac),
+        Site::Kernel(_, None) => 0.0,
         Site::Grid(l, spots) => sinc_value::spots_value(l, table, work, spots),
     }
 }

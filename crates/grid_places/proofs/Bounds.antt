@@ -20,7 +20,6 @@ use Rattle.interpolation.proofs.Range.{in_range_lem, in_range_one}
 use Rattle.interpolation.proofs.Starts.{index_value, start_is}
 use Rattle.asynchro_sinc.specs.declared.SincInterpolationType.{SincInterpolationType}
 use Rattle.asynchro_sinc.specs.declared.SincInterpolationType.TheVariants.{Nearest, Linear, Quadratic, Cubic}
-use Rattle.grid_places.specs.declared.Spot.TheVariants.{Held}
 use Rattle.grid_places.specs.Spots.{within, spot_from, spots_of, is_held, all_held}
 use Rattle.grid_places.proofs.Grid.{least_of, nearest_of, number_of, held_range, held_middle}
 
@@ -32,7 +31,7 @@ pub record Bounded (shift last : ℕ) (x : Float) : Type 0 where
 
 -- ---- a point that is held: its index lies from -shift to last - shift
 -- it is held just where its test passes
-pub held_within : (b : Bool) (start row : ℕ) → is_held (within b (Held start row)) ≡ b
+pub held_within : (b : Bool) (start row : ℕ) → is_held (within b start row) ≡ b
 held_within true start row = refl
 held_within false start row = refl
 

@@ -1,5 +1,5 @@
 -- The grid functions of the four blends by one form, and what fits: every grid point's row lies in the table and its samples in the working area. Assumes nothing.
-use Rattle.std.proofs.Common.{◌≡◌, ℕ, zero, suc, ◌+◌, ◌-◌, ◌*◌, ◌<◌, ◌≤◌, Bool, true, false, ◌&&◌, leb, List, [], ◌∷◌, map, ℤ, pos, negsuc, ◌+ℤ◌, sym, refl, ◌∙◌, subst, mul-le-mul_right, arith, lit<, leb-true}
+use Rattle.std.proofs.Common.{Option, Some, ◌≡◌, ℕ, zero, suc, ◌+◌, ◌-◌, ◌*◌, ◌<◌, ◌≤◌, Bool, true, false, ◌&&◌, leb, List, [], ◌∷◌, map, ℤ, pos, negsuc, ◌+ℤ◌, sym, refl, ◌∙◌, subst, mul-le-mul_right, arith, lit<, leb-true}
 use lib.Ieee.{Float}
 use Rattle.error.specs.Refusals.{Said, given, unless}
 use Rattle.error.proofs.Ladder.{pass, both}
@@ -11,7 +11,6 @@ use Rattle.interpolation.proofs.Range.{in_range_one}
 use Rattle.asynchro_sinc.specs.declared.SincInterpolationType.{SincInterpolationType}
 use Rattle.asynchro_sinc.specs.declared.SincInterpolationType.TheVariants.{Nearest, Linear, Quadratic, Cubic}
 use Rattle.grid_places.specs.declared.Spot.{Spot}
-use Rattle.grid_places.specs.declared.Spot.TheVariants.{Held}
 use Rattle.grid_places.specs.Spots.{within, spot_from, spot_of, grid_of, blend_place, nth, blended, spots_said, spots_of, is_held, all_held}
 use Rattle.grid_places.specs.Turns.{Fits, FitAll}
 
@@ -52,7 +51,7 @@ grid_is Cubic x factor = refl
 
 -- ---- what fits, of l samples in n and a table of m
 module _ (l n m : ℕ) where
-  within_fit : (b : Bool) (start row : ℕ) → (b ≡ true → start + l ≤ n) → row * l + l ≤ m → Fits l n m (within b (Held start row))
+  within_fit : (b : Bool) (start row : ℕ) → (b ≡ true → start + l ≤ n) → row * l + l ≤ m → Fits l n m (within b start row)
   within_fit true start row h k = (h refl, k)
   within_fit false start row h k = tt
 
@@ -73,13 +72,13 @@ module _ (l n m : ℕ) where
     points_fit q (o ∷ os) zero = point_fit (q +ℤ o)
     points_fit q (o ∷ os) (suc i) = points_fit q os i
 
-  blended_fit : (blend : SincInterpolationType) (spots : List Spot) (x : Float) → ((i : ℕ) → Fits l n m (nth spots i)) → FitAll l n m (blended blend spots x)
+  blended_fit : (blend : SincInterpolationType) (spots : List (Option Spot)) (x : Float) → ((i : ℕ) → Fits l n m (nth spots i)) → FitAll l n m (Some (blended blend spots x))
   blended_fit Nearest spots x h = h 0
   blended_fit Linear spots x h = (h 0, h 1)
   blended_fit Quadratic spots x h = (h 0, h 1, h 2)
   blended_fit Cubic spots x h = (h 0, h 1, h 2, h 3)
 
-  unless_fit : (blend : SincInterpolationType) (shift last : ℕ) (x : Float) (b : Bool) (ps : List Point) → FitAll l n m (blended blend (map (spot_of shift last) ps) x) → FitAll l n m (spots_said blend shift last x (unless b 11 [] (given ps)))
+  unless_fit : (blend : SincInterpolationType) (shift last : ℕ) (x : Float) (b : Bool) (ps : List Point) → FitAll l n m (Some (blended blend (map (spot_of shift last) ps) x)) → FitAll l n m (spots_said blend shift last x (unless b 11 [] (given ps)))
   unfolding unless
   unless_fit blend shift last x true ps h = h
   unless_fit blend shift last x false ps h = tt
@@ -124,7 +123,7 @@ module _ (blend : SincInterpolationType) (x : Float) (factor : ℕ) where
     pub held_given : grid_of blend x factor ≡ given (points_of blend x factor)
     held_given = range_given held_range
 
-    held_blended : all_held (blended blend (map (spot_of shift last) (points_of blend x factor)) (blend_place x factor)) ≡ true
+    held_blended : all_held (Some (blended blend (map (spot_of shift last) (points_of blend x factor)) (blend_place x factor))) ≡ true
     held_blended = subst (λ (said : Said (List Point)). all_held (spots_said blend shift last (blend_place x factor) said) ≡ true) held_given h
 
 -- the point number q is held, whatever the blend
@@ -134,7 +133,7 @@ held_middle blend x factor shift last h = go blend (held_blended blend x factor 
     point : SincInterpolationType → ℤ → Bool
     point blend o = is_held (spot_of shift last (point_of factor (number_of blend x factor +ℤ o)))
 
-    go : (blend : SincInterpolationType) → all_held (blended blend (map (spot_of shift last) (points_of blend x factor)) (blend_place x factor)) ≡ true → point blend (pos 0) ≡ true
+    go : (blend : SincInterpolationType) → all_held (Some (blended blend (map (spot_of shift last) (points_of blend x factor)) (blend_place x factor))) ≡ true → point blend (pos 0) ≡ true
     go Nearest k = k
     go Linear k = (both (point Linear (pos 0)) (point Linear (pos 1)) k).0
     go Quadratic k = (both (point Quadratic (pos 0)) (point Quadratic (pos 1)) (both (point Quadratic (pos 0) && point Quadratic (pos 1)) (point Quadratic (pos 2)) k).0).0

@@ -1,5 +1,5 @@
 -- Where an index lies well inside, every grid point's samples are held: the points lie from one sample before the floor to one after it. Assumes nothing.
-use Rattle.std.proofs.Common.{◌≡◌, ℕ, suc, ◌+◌, ◌-◌, ◌*◌, ◌^◌, ◌<◌, ◌≤◌, true, leb, List, map, ℤ, pos, negsuc, ◌+ℤ◌, sym, ◌∙◌, subst, mul-le-mul_right, arith, lit<, pow_pos, pow-add, le-leb}
+use Rattle.std.proofs.Common.{Some, ◌≡◌, ℕ, suc, ◌+◌, ◌-◌, ◌*◌, ◌^◌, ◌<◌, ◌≤◌, true, leb, List, map, ℤ, pos, negsuc, ◌+ℤ◌, sym, ◌∙◌, subst, mul-le-mul_right, arith, lit<, pow_pos, pow-add, le-leb}
 use mathlib.Core.Bool.{and-eq-true_iff}
 use native.Mathlib.Nat.{lt_of_mul-lt-mul_left}
 use lib.Ieee.{Float, binary64, low}
@@ -57,7 +57,7 @@ HeldAt blend factor shift last x o = is_held (spot_of shift last (point_of facto
 
 -- each blend's points are numbers from q - 1 to q + 2, so they are held where all of these are
 blended_held : (blend : SincInterpolationType) (factor shift last : ℕ) (x y : Float) → 3 ≤ factor → ((o : ℤ) → Offset factor 1 (pair_of o) → HeldAt blend factor shift last x o)
-    → all_held (blended blend (map (spot_of shift last) (points_of blend x factor)) y) ≡ true
+    → all_held (Some (blended blend (map (spot_of shift last) (points_of blend x factor)) y)) ≡ true
 blended_held Nearest factor shift last x y some h = h (pos 0) (omega arith)
 blended_held Linear factor shift last x y some h = rw (h (pos 0) (omega arith), h (pos 1) (omega arith))
 blended_held Quadratic factor shift last x y some h = rw (h (pos 0) (omega arith), h (pos 1) (omega arith), h (pos 2) (omega arith))

@@ -1,6 +1,5 @@
 -- The laws of a frame's grid points. Assumes nothing.
 pub mod Signs
-pub mod Answers
 pub mod Grid
 pub mod Bounds
 pub mod Inner

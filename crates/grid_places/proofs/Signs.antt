@@ -1,5 +1,5 @@
 -- The place of a grid point, by the tests that the code makes of the signed index. Assumes nothing.
-use Rattle.std.proofs.Common.{◌≡◌, ℕ, suc, ◌+◌, ◌-◌, ◌^◌, ◌<◌, ◌≤◌, true, false, T, leb, ℤ, pos, negsuc, ◌-ℤ◌, nat_abs, sym, refl, ap, ◌∙◌, subst, true≢false, zero-add, arith, w64, Fits, SFits, to_z, of_z, le-leb, leb-false, leb-true}
+use Rattle.std.proofs.Common.{Option, None, ◌≡◌, ℕ, suc, ◌+◌, ◌-◌, ◌^◌, ◌<◌, ◌≤◌, true, false, T, leb, ℤ, pos, negsuc, ◌-ℤ◌, nat_abs, sym, refl, ap, ◌∙◌, subst, true≢false, zero-add, arith, w64, Fits, SFits, to_z, of_z, le-leb, leb-false, leb-true}
 use mathlib.Core.Bool.{false≢true}
 use borrow.Author.Tests.{lt-leb}
 use mir.ValLaws.{to_z-of_z}
@@ -7,12 +7,11 @@ use lib.Dec.{leb-zero}
 use lib.Signed.{le_z, non_neg, mag}
 use Rattle.whole.proofs.Casts.{abs_fits}
 use Rattle.grid_places.specs.declared.Spot.{Spot}
-use Rattle.grid_places.specs.declared.Spot.TheVariants.{Held, Lost}
 use Rattle.grid_places.specs.Spots.{within, spot_from}
 
 -- the spot at start
-abbrev spot_at : ℕ → ℕ → ℕ → Spot
-spot_at last row start = within (leb start last) (Held start row)
+abbrev spot_at : ℕ → ℕ → ℕ → Option Spot
+spot_at last row start = within (leb start last) start row
 
 -- ---- of an index y, by its sign
 plain_kept : (y : ℤ) → mag y < 2 ^ 63 → le_z (pos 0) y ≡ true → T (non_neg y) × Fits w64 (nat_abs y)
@@ -32,7 +31,7 @@ module _ (shift last row : ℕ) where
   plain_is (pos n) e = refl
   plain_is (negsuc n) e = absurd (false≢true e)
 
-  plain_lost : (y : ℤ) → le_z (pos 0) y ≡ true → last < nat_abs y → Lost ≡ spot_from shift last y row
+  plain_lost : (y : ℤ) → le_z (pos 0) y ≡ true → last < nat_abs y → None ≡ spot_from shift last y row
   unfolding spot_from
   plain_lost (pos n) e h = rw (lt-leb (n + shift) last (omega arith)) refl
   plain_lost (negsuc n) e h = absurd (false≢true e)
@@ -42,7 +41,7 @@ module _ (shift last row : ℕ) where
   minus_is (pos n) e h = absurd (true≢false (sym (leb-zero n) ∙ e))
   minus_is (negsuc n) e h = rw (le-leb (suc n) shift h) refl
 
-  minus_lost : (y : ℤ) → le_z (pos 0) y ≡ false → shift < nat_abs y → Lost ≡ spot_from shift last y row
+  minus_lost : (y : ℤ) → le_z (pos 0) y ≡ false → shift < nat_abs y → None ≡ spot_from shift last y row
   unfolding spot_from
   minus_lost (pos n) e h = absurd (true≢false (sym (leb-zero n) ∙ e))
   minus_lost (negsuc n) e h = rw (lt-leb (suc n) shift h) refl
@@ -71,12 +70,12 @@ module _ (z : ℤ) (f : mag z < 2 ^ 63) where
     pub spot_plain : le_z (pos 0) (back z) ≡ true → spot_at last row (nat_abs (back z) + shift) ≡ spot_from shift last z row
     spot_plain = read (λ y. le_z (pos 0) y ≡ true → spot_at last row (nat_abs y + shift) ≡ spot_from shift last z row) (plain_is shift last row z)
 
-    pub spot_high : le_z (pos 0) (back z) ≡ true → last < nat_abs (back z) → Lost ≡ spot_from shift last z row
-    spot_high = read (λ y. le_z (pos 0) y ≡ true → last < nat_abs y → Lost ≡ spot_from shift last z row) (plain_lost shift last row z)
+    pub spot_high : le_z (pos 0) (back z) ≡ true → last < nat_abs (back z) → None ≡ spot_from shift last z row
+    spot_high = read (λ y. le_z (pos 0) y ≡ true → last < nat_abs y → None ≡ spot_from shift last z row) (plain_lost shift last row z)
 
-    pub spot_low : le_z (pos 0) (back z) ≡ false → le_z (negsuc 131071) (back z) ≡ false → shift < 131072 → Lost ≡ spot_from shift last z row
+    pub spot_low : le_z (pos 0) (back z) ≡ false → le_z (negsuc 131071) (back z) ≡ false → shift < 131072 → None ≡ spot_from shift last z row
     spot_low =
-        read (λ y. le_z (pos 0) y ≡ false → le_z (negsuc 131071) y ≡ false → shift < 131072 → Lost ≡ spot_from shift last z row)
+        read (λ y. le_z (pos 0) y ≡ false → le_z (negsuc 131071) y ≡ false → shift < 131072 → None ≡ spot_from shift last z row)
         (λ e t h. minus_lost shift last row z e (omega (arith, far_size z e t)))
 
   -- a negative index, turned
@@ -108,5 +107,5 @@ module _ (z : ℤ) (f : mag z < 2 ^ 63) where
       pub spot_minus : nat_abs (back (pos 0 -ℤ back z)) ≤ shift → spot_at last row (shift - nat_abs (back (pos 0 -ℤ back z))) ≡ spot_from shift last z row
       spot_minus = sized (λ n. n ≤ shift → spot_at last row (shift - n) ≡ spot_from shift last z row) (minus_is shift last row z negative)
 
-      pub spot_far : shift < nat_abs (back (pos 0 -ℤ back z)) → Lost ≡ spot_from shift last z row
-      spot_far = sized (λ n. shift < n → Lost ≡ spot_from shift last z row) (minus_lost shift last row z negative)
+      pub spot_far : shift < nat_abs (back (pos 0 -ℤ back z)) → None ≡ spot_from shift last z row
+      spot_far = sized (λ n. shift < n → None ≡ spot_from shift last z row) (minus_lost shift last row z negative)

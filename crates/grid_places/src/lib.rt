@@ -2,50 +2,46 @@
 #![tactic(auto)]
 
 ghost use Rattle.std.specs.Prelude.{◌≡◌, ◌<◌, nat_le};
-ghost use Rattle.interpolation.specs.Grid.{nearest1, nearest2, nearest3, nearest4};
 ghost use Rattle.grid_places.specs.Spots.{
   within,
   spot_of,
   blend_place,
   spots_said,
   spots_of,
-  is_held,
   all_held,
 };
 
 use asynchro_sinc::SincInterpolationType;
-use interpolation::{Point, Times1, Times2, Times3, Times4};
+use interpolation::Point;
 
-// A grid point: where its samples begin in a channel's working area, and its row of the table; or that
-// its samples are not all there.
+// Where a grid point's samples begin in a channel's working area, and its row of the table.
 #[derive(Clone, Copy)]
-pub enum Spot {
-    Held(usize, usize),
-    Lost,
+pub struct Spot {
+    pub start: usize,
+    pub row: usize,
 }
 
-// The grid points of a frame, one to four, and the blend place; or that the index has none.
+// The grid points of a frame, one to four, None where its samples are not all there; and the blend place.
 #[derive(Clone, Copy)]
 pub enum Spots {
-    One(Spot),
-    Two(Spot, Spot, f64),
-    Three(Spot, Spot, Spot, f64),
-    Four(Spot, Spot, Spot, Spot, f64),
-    Nowhere,
+    One(Option<Spot>),
+    Two(Option<Spot>, Option<Spot>, f64),
+    Three(Option<Spot>, Option<Spot>, Option<Spot>, f64),
+    Four(Option<Spot>, Option<Spot>, Option<Spot>, Option<Spot>, f64),
 }
 
-fn spot_at(start: usize, last: usize, row: usize) -> Spot
-    ensures { result ≡ within (nat_le start last) (Spot.Held start row) }
+fn spot_at(start: usize, last: usize, row: usize) -> Option<Spot>
+    ensures { result ≡ within (nat_le start last) start row }
 {
     if start <= last {
-        Spot::Held(start, row)
+        Some(Spot { start, row })
     } else {
-        Spot::Lost
+        None
     }
 }
 
 // The place index + shift, up to `last`.
-pub fn spot_of(shift: usize, last: usize, p: Point) -> Spot
+pub fn spot_of(shift: usize, last: usize, p: Point) -> Option<Spot>
     requires { (shift < 131072) × (last < 131072) }
     ensures { result ≡ spot_of shift last p }
 {
@@ -56,7 +52,7 @@ pub fn spot_of(shift: usize, last: usize, p: Point) -> Spot
         if n <= last {
             return spot_at(n + shift, last, row);
         }
-        return Spot::Lost;
+        return None;
     }
     if z >= -131072 {
         let n = (-z) as usize;
@@ -64,7 +60,7 @@ pub fn spot_of(shift: usize, last: usize, p: Point) -> Spot
             return spot_at(shift - n, last, row);
         }
     }
-    Spot::Lost
+    None
 }
 
 // index*factor minus its floor: floor and fraction come from `split` and from nowhere else.
@@ -75,61 +71,6 @@ fn blend_place(x: f64, factor: usize) -> f64
     s.frac
 }
 
-fn one_spot(factor: usize, shift: usize, last: usize, x: f64) -> Spots
-    requires { (shift < 131072) × (last < 131072) }
-    ensures { result ≡ spots_said SincInterpolationType.Nearest shift last (blend_place x factor) (nearest1 x factor) }
-{
-    match interpolation::get_nearest_time(x, factor as u64) {
-        Times1::At(p) => Spots::One(spot_of(shift, last, p)),
-        Times1::Refused(_) => Spots::Nowhere,
-    }
-}
-
-fn two_spots(factor: usize, shift: usize, last: usize, x: f64) -> Spots
-    requires { (shift < 131072) × (last < 131072) }
-    ensures { result ≡ spots_said SincInterpolationType.Linear shift last (blend_place x factor) (nearest2 x factor) }
-{
-    match interpolation::get_nearest_times_2(x, factor as u64) {
-        Times2::At(p, q) => Spots::Two(
-            spot_of(shift, last, p),
-            spot_of(shift, last, q),
-            blend_place(x, factor),
-        ),
-        Times2::Refused(_) => Spots::Nowhere,
-    }
-}
-
-fn three_spots(factor: usize, shift: usize, last: usize, x: f64) -> Spots
-    requires { (shift < 131072) × (last < 131072) }
-    ensures { result ≡ spots_said SincInterpolationType.Quadratic shift last (blend_place x factor) (nearest3 x factor) }
-{
-    match interpolation::get_nearest_times_3(x, factor as u64) {
-        Times3::At(p, q, o) => Spots::Three(
-            spot_of(shift, last, p),
-            spot_of(shift, last, q),
-            spot_of(shift, last, o),
-            blend_place(x, factor),
-        ),
-        Times3::Refused(_) => Spots::Nowhere,
-    }
-}
-
-fn four_spots(factor: usize, shift: usize, last: usize, x: f64) -> Spots
-    requires { (shift < 131072) × (last < 131072) }
-    ensures { result ≡ spots_said SincInterpolationType.Cubic shift last (blend_place x factor) (nearest4 x factor) }
-{
-    match interpolation::get_nearest_times_4(x, factor as u64) {
-        Times4::At(p, q, o, n) => Spots::Four(
-            spot_of(shift, last, p),
-            spot_of(shift, last, q),
-            spot_of(shift, last, o),
-            spot_of(shift, last, n),
-            blend_place(x, factor),
-        ),
-        Times4::Refused(_) => Spots::Nowhere,
-    }
-}
-
 // The grid points of the index x, by the ported functions.
 pub fn spots_of(
     blend: SincInterpolationType,
@@ -137,36 +78,41 @@ pub fn spots_of(
     shift: usize,
     last: usize,
     x: f64,
-) -> Spots
+) -> Option<Spots>
     requires { (shift < 131072) × (last < 131072) }
     ensures { result ≡ spots_of blend factor shift last x }
 {
-    match blend {
-        SincInterpolationType::Nearest => one_spot(factor, shift, last, x),
-        SincInterpolationType::Linear => two_spots(factor, shift, last, x),
-        SincInterpolationType::Quadratic => three_spots(factor, shift, last, x),
-        SincInterpolationType::Cubic => four_spots(factor, shift, last, x),
-    }
-}
-
-fn is_held(a: Spot) -> bool
-    ensures { result ≡ is_held a }
-{
-    match a {
-        Spot::Held(_, _) => true,
-        Spot::Lost => false,
-    }
+    let parts = factor as u64;
+    let spot = |p: Point| spot_of(shift, last, p);
+    Some(match blend {
+        SincInterpolationType::Nearest => {
+            let p = interpolation::get_nearest_time(x, parts).ok()?;
+            Spots::One(spot(p))
+        }
+        SincInterpolationType::Linear => {
+            let [p, q] = interpolation::get_nearest_times_2(x, parts).ok()?;
+            Spots::Two(spot(p), spot(q), blend_place(x, factor))
+        }
+        SincInterpolationType::Quadratic => {
+            let [p, q, o] = interpolation::get_nearest_times_3(x, parts).ok()?;
+            Spots::Three(spot(p), spot(q), spot(o), blend_place(x, factor))
+        }
+        SincInterpolationType::Cubic => {
+            let [p, q, o, n] = interpolation::get_nearest_times_4(x, parts).ok()?;
+            Spots::Four(spot(p), spot(q), spot(o), spot(n), blend_place(x, factor))
+        }
+    })
 }
 
 // Every grid point's samples are there.
-pub fn all_held(spots: Spots) -> bool
+pub fn all_held(spots: Option<Spots>) -> bool
     ensures { result ≡ all_held spots }
 {
     match spots {
-        Spots::One(a) => is_held(a),
-        Spots::Two(a, b, _) => is_held(a) & is_held(b),
-        Spots::Three(a, b, c, _) => is_held(a) & is_held(b) & is_held(c),
-        Spots::Four(a, b, c, d, _) => is_held(a) & is_held(b) & is_held(c) & is_held(d),
-        Spots::Nowhere => false,
+        Some(Spots::One(a)) => a.is_some(),
+        Some(Spots::Two(a, b, _)) => a.is_some() & b.is_some(),
+        Some(Spots::Three(a, b, c, _)) => a.is_some() & b.is_some() & c.is_some(),
+        Some(Spots::Four(a, b, c, d, _)) => a.is_some() & b.is_some() & c.is_some() & d.is_some(),
+        None => false,
     }
 }

@@ -1,19 +1,12 @@
 -- Document 01, "Grid points". Definitions only.
-use Rattle.std.specs.Prelude.{◌≡◌, ℕ, ◌-◌, ◌/◌, ◌%◌, ◌<◌, Bool, ◌&&◌, List, [], ◌∷◌, map, ℤ, pos, negsuc, ◌+ℤ◌, ◌*ℤ◌, nat_le, Float}
+use Rattle.std.specs.Prelude.{◌≡◌, ℕ, ◌-◌, ◌/◌, ◌%◌, ◌<◌, Bool, ◌&&◌, List, [], ◌∷◌, map, ℤ, pos, negsuc, ◌+ℤ◌, ◌*ℤ◌, nat_le, Float, Result, Ok, Err}
 use Rattle.std.specs.Float.Ieee.{to_signed, to_unsigned}
 use Rattle.exact.specs.Doubles.{◌*f◌, count}
+use Rattle.error.specs.declared.Refusal.{Refusal}
 use Rattle.error.specs.Refusals.{number_of, values_of, Said, given, refused, unless}
 use Rattle.whole.specs.Rounded.{floor_of, round_of, split_of}
 use Rattle.whole.specs.Small.{small}
 use Rattle.interpolation.specs.declared.Point.{Point}
-use Rattle.interpolation.specs.declared.Times1.{Times1}
-use Rattle.interpolation.specs.declared.Times1.TheVariants as times1
-use Rattle.interpolation.specs.declared.Times2.{Times2}
-use Rattle.interpolation.specs.declared.Times2.TheVariants as times2
-use Rattle.interpolation.specs.declared.Times3.{Times3}
-use Rattle.interpolation.specs.declared.Times3.TheVariants as times3
-use Rattle.interpolation.specs.declared.Times4.{Times4}
-use Rattle.interpolation.specs.declared.Times4.TheVariants as times4
 
 -- "|t| below 2^52", "factor 1 to 2^20 (3 to 2^20 for three and four points)"
 abbrev pub in_range : ℕ → Float → ℕ → Bool
@@ -53,18 +46,7 @@ abbrev pub nearest4 : Float → ℕ → Said (List Point)
 nearest4 = grid_said 3 floor_of (negsuc 0 ∷ pos 0 ∷ pos 1 ∷ pos 2 ∷ [])
 
 -- ---- the answers in document 01's words
-abbrev pub said_times1 : Times1 → Said (List Point)
-said_times1 (times1.At a) = given (a ∷ [])
-said_times1 (times1.Refused r) = refused (number_of r) (values_of r)
-
-abbrev pub said_times2 : Times2 → Said (List Point)
-said_times2 (times2.At a b) = given (a ∷ b ∷ [])
-said_times2 (times2.Refused r) = refused (number_of r) (values_of r)
-
-abbrev pub said_times3 : Times3 → Said (List Point)
-said_times3 (times3.At a b c) = given (a ∷ b ∷ c ∷ [])
-said_times3 (times3.Refused r) = refused (number_of r) (values_of r)
-
-abbrev pub said_times4 : Times4 → Said (List Point)
-said_times4 (times4.At a b c d) = given (a ∷ b ∷ c ∷ d ∷ [])
-said_times4 (times4.Refused r) = refused (number_of r) (values_of r)
+-- two, three and four points by `said_result`; one point as a list of one
+abbrev pub said_time : Result Point Refusal → Said (List Point)
+said_time (Ok p) = given (p ∷ [])
+said_time (Err r) = refused (number_of r) (values_of r)

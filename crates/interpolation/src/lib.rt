@@ -4,7 +4,8 @@
 #![tactic(auto)]
 
 ghost use Rattle.std.specs.Prelude.{◌≡◌, ◌≤◌, true, pos, ◌+ℤ◌, ◌-ℤ◌};
-ghost use Rattle.interpolation.specs.Grid.{in_range, point_of, said_times1, said_times2, said_times3, said_times4, nearest1, nearest2, nearest3, nearest4};
+ghost use Rattle.error.specs.Refusals.{said_result};
+ghost use Rattle.interpolation.specs.Grid.{in_range, point_of, said_time, nearest1, nearest2, nearest3, nearest4};
 ghost use Rattle.interpolation.specs.Steps.{inner_of, whole_by, begin_of, start_q, Ready};
 
 use error::Refusal;
@@ -14,31 +15,6 @@ use error::Refusal;
 pub struct Point {
     pub index: i64,
     pub subindex: u64,
-}
-
-// What the four functions answer: their points in order, or why not.
-#[derive(Clone, Copy)]
-pub enum Times1 {
-    At(Point),
-    Refused(Refusal),
-}
-
-#[derive(Clone, Copy)]
-pub enum Times2 {
-    At(Point, Point),
-    Refused(Refusal),
-}
-
-#[derive(Clone, Copy)]
-pub enum Times3 {
-    At(Point, Point, Point),
-    Refused(Refusal),
-}
-
-#[derive(Clone, Copy)]
-pub enum Times4 {
-    At(Point, Point, Point, Point),
-    Refused(Refusal),
 }
 
 // Where q lies: so many whole times, and so many parts after that. A fraction that rounds to 1.0
@@ -123,54 +99,54 @@ fn start_of(t: f64, factor: u64, nearest: bool) -> Start
 }
 
 // The nearest point.
-pub fn get_nearest_time(t: f64, factor: u64) -> Times1
-    ensures { said_times1 result ≡ nearest1 t factor }
+pub fn get_nearest_time(t: f64, factor: u64) -> Result<Point, Refusal>
+    ensures { said_time result ≡ nearest1 t factor }
 {
     if !in_range(t, factor, 1) {
-        return Times1::Refused(Refusal::Argument);
+        return Err(Refusal::Argument);
     }
     let s = start_of(t, factor, NEAREST);
-    Times1::At(place(s, factor, 1))
+    Ok(place(s, factor, 1))
 }
 
 // The two points q and q + 1. At a fraction that rounds to 1.0 the first is the next whole time.
-pub fn get_nearest_times_2(t: f64, factor: u64) -> Times2
-    ensures { said_times2 result ≡ nearest2 t factor }
+pub fn get_nearest_times_2(t: f64, factor: u64) -> Result<[Point; 2], Refusal>
+    ensures { said_result result ≡ nearest2 t factor }
 {
     if !in_range(t, factor, 1) {
-        return Times2::Refused(Refusal::Argument);
+        return Err(Refusal::Argument);
     }
     let s = start_of(t, factor, FLOOR);
-    Times2::At(place(s, factor, 1), place(s, factor, 2))
+    Ok([place(s, factor, 1), place(s, factor, 2)])
 }
 
 // The three points from q on.
-pub fn get_nearest_times_3(t: f64, factor: u64) -> Times3
-    ensures { said_times3 result ≡ nearest3 t factor }
+pub fn get_nearest_times_3(t: f64, factor: u64) -> Result<[Point; 3], Refusal>
+    ensures { said_result result ≡ nearest3 t factor }
 {
     if !in_range(t, factor, LEAST) {
-        return Times3::Refused(Refusal::Argument);
+        return Err(Refusal::Argument);
     }
     let s = start_of(t, factor, FLOOR);
-    Times3::At(
+    Ok([
         place(s, factor, 1),
         place(s, factor, 2),
         place(s, factor, 3),
-    )
+    ])
 }
 
 // The four points from q - 1 on.
-pub fn get_nearest_times_4(t: f64, factor: u64) -> Times4
-    ensures { said_times4 result ≡ nearest4 t factor }
+pub fn get_nearest_times_4(t: f64, factor: u64) -> Result<[Point; 4], Refusal>
+    ensures { said_result result ≡ nearest4 t factor }
 {
     if !in_range(t, factor, LEAST) {
-        return Times4::Refused(Refusal::Argument);
+        return Err(Refusal::Argument);
     }
     let s = start_of(t, factor, FLOOR);
-    Times4::At(
+    Ok([
         place(s, factor, 0),
         place(s, factor, 1),
         place(s, factor, 2),
         place(s, factor, 3),
-    )
+    ])
 }

@@ -19,10 +19,10 @@ use Rattle.channel.specs.Mask.{is_on, where_on}
 use Rattle.area.proofs.Parts.{part_long, each_same, each_each}
 use Rattle.path.specs.declared.Moment.{Moment}
 use Rattle.path.specs.declared.Place.{Place}
-use Rattle.path.specs.declared.Place.TheVariants.{At}
+use Rattle.std.proofs.Common.{Option, Some}
 use Rattle.path.specs.declared.Site.TheVariants.{Kernel}
 use Rattle.path.specs.Path.{step_index, path_at}
-use Rattle.path.specs.Places.{shift_of, last_of}
+use Rattle.path.specs.Places.{place_at, shift_of, last_of}
 use Rattle.path.specs.Sites.{site_of}
 use Rattle.path.specs.Turns.{PlacedTo}
 use Rattle.path.proofs.Places.{place_reach}
@@ -103,7 +103,7 @@ module _ (kind : Kind) (table : List Float) (needed mask : ℕ) (work : List Flo
 
 -- ---- a run by its places
 module _ (degree : PolynomialDegree) (table : List Float) (needed : ℕ) (t d i : Float) (places : List ℕ) (fracs : List Float) where
-  value_is : (w : List Float) (p : Place) (s : ℕ) (x : Float) → p ≡ At s x → kernel_on degree w s x ≡ value_at table w (Kernel degree p)
+  value_is : (w : List Float) (p : Option Place) (s : ℕ) (x : Float) → p ≡ Some (place_at s x) → kernel_on degree w s x ≡ value_at table w (Kernel degree p)
   unfolding kernel_on value_at kernel_at
   value_is w p s x e = rw e
 

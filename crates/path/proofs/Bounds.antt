@@ -20,11 +20,10 @@ use Rattle.whole.proofs.Held.{next_value, whole_f_value}
 use Rattle.whole.proofs.Divisions.{part_next, over_next}
 use Rattle.whole.proofs.Units.{whole_exact}
 use Rattle.whole.proofs.Values.{floor_greatest}
-use Rattle.path.specs.declared.Place.TheVariants.{At}
-use Rattle.path.specs.Places.{within, place_from, place_of, is_at}
+use Rattle.path.specs.Places.{place_at, within, place_from, place_of, is_at}
 
 -- ---- what a place says of a whole number n with a sign
-pub at_within : (b : Bool) (s : ℕ) (x : Float) → is_at (within b (At s x)) ≡ b
+pub at_within : (b : Bool) (s : ℕ) (x : Float) → is_at (within b (place_at s x)) ≡ b
 at_within true s x = refl
 at_within false s x = refl
 
@@ -32,19 +31,19 @@ cut_is : (m : ℕ) (e : ℤ) (n : ℕ) → m * up e * 1 ≡ n * down e → m * u
 cut_is m e n h = ap (λ (a : ℕ). a / down e) (sym (mul-one (m * up e)) ∙ h) ∙ mul-div_cancel n (down_pos e)
 
 -- the place of a whole number n with either sign
-pub place_plain : (shift last : ℕ) (y frac : Float) (n : ℕ) → HasValue y false n 1 → place_from shift last y frac ≡ within (leb (n + shift) last) (At (n + shift) frac)
+pub place_plain : (shift last : ℕ) (y frac : Float) (n : ℕ) → HasValue y false n 1 → place_from shift last y frac ≡ within (leb (n + shift) last) (place_at (n + shift) frac)
 unfolding place_from
 place_plain shift last nan frac n v = absurd v
 place_plain shift last (inf s) frac n v = absurd v
 place_plain shift last (fin true m e) frac n v = absurd (true≢false v.0)
-place_plain shift last (fin false m e) frac n v = ap (λ (j : ℕ). within (leb (j + shift) last) (At (j + shift) frac)) (cut_is m e n v.1)
+place_plain shift last (fin false m e) frac n v = ap (λ (j : ℕ). within (leb (j + shift) last) (place_at (j + shift) frac)) (cut_is m e n v.1)
 
-pub place_minus : (shift last : ℕ) (y frac : Float) (n : ℕ) → HasValue y true n 1 → place_from shift last y frac ≡ within (leb n shift && leb (shift - n) last) (At (shift - n) frac)
+pub place_minus : (shift last : ℕ) (y frac : Float) (n : ℕ) → HasValue y true n 1 → place_from shift last y frac ≡ within (leb n shift && leb (shift - n) last) (place_at (shift - n) frac)
 unfolding place_from
 place_minus shift last nan frac n v = absurd v
 place_minus shift last (inf s) frac n v = absurd v
 place_minus shift last (fin false m e) frac n v = absurd (false≢true v.0)
-place_minus shift last (fin true m e) frac n v = ap (λ (j : ℕ). within (leb j shift && leb (shift - j) last) (At (shift - j) frac)) (cut_is m e n v.1)
+place_minus shift last (fin true m e) frac n v = ap (λ (j : ℕ). within (leb j shift && leb (shift - j) last) (place_at (shift - j) frac)) (cut_is m e n v.1)
 
 at_plain : (shift last : ℕ) (y frac : Float) (n : ℕ) → HasValue y false n 1 → is_at (place_from shift last y frac) ≡ leb (n + shift) last
 at_plain shift last y frac n v = ap is_at (place_plain shift last y frac n v) ∙ at_within (leb (n + shift) last) (n + shift) frac

@@ -12,23 +12,23 @@ use Rattle.kinds.specs.Kinds.{points_of, kind_holds, table_of}
 use Rattle.kinds.proofs.Laws.{sized}
 use Rattle.grid_places.specs.declared.Spots.{Spots}
 use Rattle.grid_places.specs.Spots.{spots_of}
-use Rattle.grid_places.specs.Turns.{FitAll}
 use Rattle.grid_places.proofs.Grid.{spots_fit}
 use Rattle.path.specs.declared.Place.{Place}
+use Rattle.std.proofs.Common.{Option}
 use Rattle.path.specs.declared.Site.{Site}
 use Rattle.path.specs.declared.Span.{Span}
 use Rattle.path.specs.declared.Site.TheVariants.{Kernel, Grid}
 use Rattle.path.specs.Places.{place_of, shift_of, last_of}
 use Rattle.path.specs.Sites.{site_of}
-use Rattle.path.specs.Turns.{span_of, inner_span, Reaches, Lies}
+use Rattle.path.specs.Turns.{span_of, inner_span, Lies}
 use Rattle.path.proofs.Places.{place_reach}
 
 -- ---- the site, by its kind
-pub site_kernel : (k : Kind) (degree : PolynomialDegree) (needed : ℕ) (x : Float) (shift last : ℕ) (p : Place) → k ≡ Polynomial degree → shift ≡ shift_of degree → last ≡ last_of degree needed
+pub site_kernel : (k : Kind) (degree : PolynomialDegree) (needed : ℕ) (x : Float) (shift last : ℕ) (p : Option Place) → k ≡ Polynomial degree → shift ≡ shift_of degree → last ≡ last_of degree needed
     → p ≡ place_of shift last x → Kernel degree p ≡ site_of k needed x
 site_kernel k degree needed x shift last p e a b h = rw (e, h, a, b)
 
-pub site_grid : (k : Kind) (points factor : ℕ) (blend : SincInterpolationType) (needed : ℕ) (x : Float) (spots : Spots) → k ≡ Sinc points factor blend
+pub site_grid : (k : Kind) (points factor : ℕ) (blend : SincInterpolationType) (needed : ℕ) (x : Float) (spots : Option Spots) → k ≡ Sinc points factor blend
     → spots ≡ spots_of blend factor (2 * points) (points + needed) x → Grid points spots ≡ site_of k needed x
 site_grid k points factor blend needed x spots e h = rw (e, h)
 
@@ -60,13 +60,6 @@ lies (Sinc points factor blend) h needed x n m l e =
 
 pub site_lies : (k : Kind) → kind_holds k ≡ true → (needed : ℕ) (x : Float) (n m : ℕ) (site : Site) → 2 * points_of k + needed ≤ n → m ≡ table_of k → site ≡ site_of k needed x → Lies site n m
 site_lies k h needed x n m site l e q = rw q (lies k h needed x n m l e)
-
--- a site taken apart
-pub lies_kernel : (site : Site) (degree : PolynomialDegree) (p : Place) (n m : ℕ) → site ≡ Kernel degree p → Lies site n m → Reaches degree p n
-lies_kernel site degree p n m e h = rw e at h
-
-pub lies_grid : (site : Site) (l : ℕ) (spots : Spots) (n m : ℕ) → site ≡ Grid l spots → Lies site n m → (1 ≤ l) × FitAll l n m spots
-lies_grid site l spots n m e h = rw e at h
 
 pub lies_same : (site : Site) (n n' m : ℕ) → n ≡ n' → Lies site n' m → Lies site n m
 lies_same site n n' m e h = rw e h

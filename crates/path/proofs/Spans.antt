@@ -26,8 +26,8 @@ use Rattle.whole.proofs.Divisions.{part_next, over_next}
 use Rattle.whole.proofs.Held.{next_value, whole_f_value}
 use Rattle.path.specs.declared.Span.{Span}
 use Rattle.path.specs.declared.Place.{Place}
-use Rattle.path.specs.declared.Place.TheVariants.{At, Out}
-use Rattle.path.specs.Places.{within, place_from, place_of, is_at}
+use Rattle.std.proofs.Common.{Option, Some, None}
+use Rattle.path.specs.Places.{place_at, within, place_from, place_of, is_at}
 use Rattle.path.specs.Turns.{span_of, is_within}
 use Rattle.path.proofs.Bounds.{place_plain, place_minus, Placed, place_iff}
 
@@ -207,9 +207,9 @@ pub record Found (shift last : ℕ) (x : Float) : Type 0 where
   pub place : ℕ
   pub few : place < 131072
   pub total : floor_of x +f count shift ≡ count place
-  pub is : place_of shift last x ≡ At place (split_of x).frac
+  pub is : place_of shift last x ≡ Some (place_at place (split_of x).frac)
 
-at_true : (b : Bool) (s : ℕ) (x : Float) → is_at (within b (At s x)) ≡ true → (b ≡ true) × (within b (At s x) ≡ At s x)
+at_true : (b : Bool) (s : ℕ) (x : Float) → is_at (within b (place_at s x)) ≡ true → (b ≡ true) × (within b (place_at s x) ≡ Some (place_at s x))
 at_true true s x e = (refl, refl)
 at_true false s x e = absurd (false≢true e)
 
@@ -223,7 +223,7 @@ module _ (shift last : ℕ) (h : shift < 131072) (l : last < 131072) where
       let n = part_div (m * up e) (down e) in
       let v = whole_f_value false n (next_value binary64 false m e n t (part_next (m * up e) (down e))) in
       let p = place_plain shift last (count n) (split_of x).frac n v in
-      let b = at_true (leb (n + shift) last) (n + shift) (split_of x).frac (subst (λ (z : Place). is_at z ≡ true) p a) in
+      let b = at_true (leb (n + shift) last) (n + shift) (split_of x).frac (subst (λ (z : Option Place). is_at z ≡ true) p a) in
       let k : n + shift ≤ last = leb-true (n + shift) last b.0 in
       record {
         place = n + shift;
@@ -236,7 +236,7 @@ module _ (shift last : ℕ) (h : shift < 131072) (l : last < 131072) where
       let n = over_div (m * up e) (down e) in
       let v = whole_f_value true n (next_value binary64 true m e n t (over_next (m * up e) (down e))) in
       let p = place_minus shift last (neg (count n)) (split_of x).frac n v in
-      let b = at_true (leb n shift && leb (shift - n) last) (shift - n) (split_of x).frac (subst (λ (z : Place). is_at z ≡ true) p a) in
+      let b = at_true (leb n shift && leb (shift - n) last) (shift - n) (split_of x).frac (subst (λ (z : Option Place). is_at z ≡ true) p a) in
       let k : n ≤ shift = leb-true n shift ((and-eq-true_iff (leb n shift) (leb (shift - n) last)).0 b.0).0 in
       let j : shift - n + n ≡ shift = omega arith in
       record {
@@ -246,9 +246,9 @@ module _ (shift last : ℕ) (h : shift < 131072) (l : last < 131072) where
         is = p ∙ b.1;
       }
 
-pub no_place : (p : Place) → is_at p ≡ false → Out ≡ p
-no_place (At s x) e = absurd (true≢false e)
-no_place Out e = refl
+pub no_place : (p : Option Place) → is_at p ≡ false → None ≡ p
+no_place (Some p) e = absurd (true≢false e)
+no_place None e = refl
 
 -- what the casts ask
 pub count_held : (n : ℕ) → n < 262144 → T (in_float binary64 (pos n))
@@ -260,7 +260,7 @@ module _ (shift last : ℕ) (x : Float) (h : shift < 131072) (l : last < 131072)
   pub test_is : b ≡ is_at (place_of shift last x)
   test_is = w ∙ ap (λ (z : Span). is_within z x) s ∙ span_is shift last h l x t
 
-  pub place_out : b ≡ false → Out ≡ place_of shift last x
+  pub place_out : b ≡ false → None ≡ place_of shift last x
   place_out e = no_place (place_of shift last x) (sym test_is ∙ e)
 
   -- what is cast, and what the cast gives
@@ -280,5 +280,5 @@ module _ (shift last : ℕ) (x : Float) (h : shift < 131072) (l : last < 131072)
     pub cast_few : to_unsigned 32 (parts.floor +f count shift) < 131072
     cast_few = rw (total_is, back.1) place_found.few
 
-    pub cast_is : At (to_unsigned 32 (parts.floor +f count shift)) parts.frac ≡ place_of shift last x
-    cast_is = ap (λ (n : ℕ). At n parts.frac) (ap (to_unsigned 32) total_is ∙ back.1) ∙ ap (λ (z : Parts). At place_found.place z.frac) p ∙ sym place_found.is
+    pub cast_is : Some (place_at (to_unsigned 32 (parts.floor +f count shift)) parts.frac) ≡ place_of shift last x
+    cast_is = ap (λ (n : ℕ). Some (place_at n parts.frac)) (ap (to_unsigned 32) total_is ∙ back.1) ∙ ap (λ (z : Parts). Some (place_at place_found.place z.frac)) p ∙ sym place_found.is

@@ -1,5 +1,5 @@
 -- A walk along the path: what holds after f frames. Assumes nothing.
-use mathlib.Core.Bool.{Bool, true, false, ◌&&◌, false≢true, and-eq-true_iff}
+use mathlib.Core.Bool.{Bool, true, ◌&&◌, false≢true, and-eq-true_iff}
 use mathlib.Core.List.{List}
 use mathlib.Core.Path.{◌≡◌, refl, sym, ap, ◌∙◌}
 use Prim.Native.Nat.{ℕ, zero, suc, ◌+◌, ◌≤◌, ◌<◌}
@@ -10,20 +10,13 @@ use lib.ListN.{length, set}
 use lib.Seq.{get_or-set_same, get_or-set_other}
 use Rattle.path.specs.declared.Moment.{Moment}
 use Rattle.path.specs.declared.Place.{Place}
-use Rattle.path.specs.declared.Place.TheVariants.{At, Out}
+use Rattle.std.proofs.Common.{Option, Some, None}
 use Rattle.path.specs.Path.{step_index, path_at}
 use Rattle.path.specs.Places.{place_of, is_at}
 use Rattle.path.specs.Turns.{put_start, put_frac, PlacedTo}
 use Rattle.path.proofs.Path.{path_next}
 
 -- ---- one place more
-pub put_at : (p : Place) (s : ℕ) (x : Float) (f : ℕ) (places : List ℕ) (fracs : List Float) → p ≡ At s x
-    → (true ≡ is_at p) × ((set places f s ≡ put_start p f places) × (set fracs f x ≡ put_frac p f fracs))
-put_at p s x f places fracs e = rw e (refl, (refl, refl))
-
-pub put_out : (p : Place) (f : ℕ) (places : List ℕ) (fracs : List Float) → p ≡ Out → (false ≡ is_at p) × ((places ≡ put_start p f places) × (fracs ≡ put_frac p f fracs))
-put_out p f places fracs e = rw e (refl, (refl, refl))
-
 module _ (shift last : ℕ) (t d i : Float) (places : List ℕ) (fracs : List Float) (f : ℕ) where
   -- what is put at f leaves what stands before it
   placed_set : (s : ℕ) (x : Float) (k : ℕ) → k ≤ f → PlacedTo shift last t d i places fracs k → PlacedTo shift last t d i (set places f s) (set fracs f x) k
@@ -32,11 +25,11 @@ module _ (shift last : ℕ) (t d i : Float) (places : List ℕ) (fracs : List Fl
   placed_set s x (suc k) l p =
       (placed_set s x k (omega arith) p.0, rw (get_or-set_other places f k s 0 (λ e. omega arith), get_or-set_other fracs f k x nan (λ e. omega arith)) p.1)
 
-  put_next : (p : Place) → f < length places → f < length fracs → is_at p ≡ true → place_of shift last (path_at t d i (suc f)).index ≡ p
+  put_next : (p : Option Place) → f < length places → f < length fracs → is_at p ≡ true → place_of shift last (path_at t d i (suc f)).index ≡ p
       → PlacedTo shift last t d i places fracs f → PlacedTo shift last t d i (put_start p f places) (put_frac p f fracs) (suc f)
   unfolding PlacedTo
-  put_next (At s x) a b e h q = (placed_set s x f (omega arith) q, rw (get_or-set_same places f s 0 a, get_or-set_same fracs f x nan b) h)
-  put_next Out a b e h q = absurd (false≢true e)
+  put_next (Some p) a b e h q = (placed_set p.start p.frac f (omega arith) q, rw (get_or-set_same places f p.start 0 a, get_or-set_same fracs f p.frac nan b) h)
+  put_next None a b e h q = absurd (false≢true e)
 
 -- ---- the walk: what holds after f frames
 pub record Walking (shift last : ℕ) (d : Float) (from : Moment) (places₀ : List ℕ) (fracs₀ : List Float) (places : List ℕ) (fracs : List Float) (at : Moment) (reach : Bool) (f : ℕ) : Type 0 where
@@ -50,7 +43,7 @@ module _ (shift last : ℕ) (d : Float) (from : Moment) (places₀ : List ℕ) (
   unfolding path_at PlacedTo
   walking_none = record { long = refl; wide = refl; along = refl; placed = λ e. tt }
 
-  pub walking_next : (places places' : List ℕ) (fracs fracs' : List Float) (at at' : Moment) (reach b : Bool) (p : Place) (f : ℕ)
+  pub walking_next : (places places' : List ℕ) (fracs fracs' : List Float) (at at' : Moment) (reach b : Bool) (p : Option Place) (f : ℕ)
       → Walking shift last d from places₀ fracs₀ places fracs at reach f
       → f < length places₀ → f < length fracs₀ → length places' ≡ length places → length fracs' ≡ length fracs
       → at' ≡ step_index d at → p ≡ place_of shift last at'.index → b ≡ is_at p → places' ≡ put_start p f places → fracs' ≡ put_frac p f fracs

@@ -1,5 +1,5 @@
 -- What a turn of a loop over the frames asks of a site, and what the code works out on the way to a place: nothing that a reader needs to believe, for no promise of a public function goes through it. Definitions only.
-use Rattle.std.specs.Prelude.{Bool, true, ◌&&◌, List, ◌≡◌, ℕ, zero, suc, ◌+◌, ◌-◌, ◌*◌, ◌≤◌, Float, get_or, set}
+use Rattle.std.specs.Prelude.{Bool, true, ◌&&◌, List, ◌≡◌, ℕ, zero, suc, ◌+◌, ◌-◌, ◌*◌, ◌≤◌, Float, get_or, set, Option, Some, None}
 use Rattle.std.specs.Float.{nan}
 use Rattle.std.specs.Float.Ieee.{neg, lt, le}
 use Rattle.exact.specs.Doubles.{◌+f◌, count}
@@ -9,12 +9,11 @@ use Rattle.kinds.specs.declared.Kind.{Kind}
 use Rattle.kinds.specs.declared.Kind.TheVariants.{Polynomial, Sinc}
 use Rattle.grid_places.specs.Turns.{FitAll}
 use Rattle.path.specs.declared.Place.{Place}
-use Rattle.path.specs.declared.Place.TheVariants.{At, Out}
 use Rattle.path.specs.declared.Site.{Site}
 use Rattle.path.specs.declared.Site.TheVariants.{Kernel, Grid}
 use Rattle.path.specs.declared.Span.{Span}
 use Rattle.path.specs.Path.{path_at}
-use Rattle.path.specs.Places.{place_from, place_of, shift_of, last_of}
+use Rattle.path.specs.Places.{place_at, place_from, place_of, shift_of, last_of}
 
 -- the indexes from -shift on and below last - shift + 1
 abbrev pub span_of : ℕ → ℕ → Span
@@ -35,25 +34,25 @@ all_along test t d i zero = true
 all_along test t d i (suc f) = all_along test t d i f && test (path_at t d i (suc f)).index
 
 -- a place and its fraction at place f of a list
-abbrev pub put_start : Place → ℕ → List ℕ → List ℕ
-put_start (At s x) f places = set places f s
-put_start Out f places = places
+abbrev pub put_start : Option Place → ℕ → List ℕ → List ℕ
+put_start (Some p) f places = set places f p.start
+put_start None f places = places
 
-abbrev pub put_frac : Place → ℕ → List Float → List Float
-put_frac (At s x) f fracs = set fracs f x
-put_frac Out f fracs = fracs
+abbrev pub put_frac : Option Place → ℕ → List Float → List Float
+put_frac (Some p) f fracs = set fracs f p.frac
+put_frac None f fracs = fracs
 
 -- the first n frames from the step t and the index i on have their places and fractions in the lists
 unfoldable pub PlacedTo : ℕ → ℕ → Float → Float → Float → List ℕ → List Float → ℕ → Type 0
 unfolding place_from path_at
 PlacedTo shift last t d i places fracs zero = Unit
 PlacedTo shift last t d i places fracs (suc f) =
-    PlacedTo shift last t d i places fracs f × (place_of shift last (path_at t d i (suc f)).index ≡ At (get_or places f 0) (get_or fracs f nan))
+    PlacedTo shift last t d i places fracs f × (place_of shift last (path_at t d i (suc f)).index ≡ Some (place_at (get_or places f 0) (get_or fracs f nan)))
 
 -- the neighbours that begin there end within n samples
-abbrev pub Reaches : PolynomialDegree → Place → ℕ → Type 0
-Reaches d (At s x) n = s + points_of d ≤ n
-Reaches d Out n = Unit
+abbrev pub Reaches : PolynomialDegree → Option Place → ℕ → Type 0
+Reaches d (Some p) n = p.start + points_of d ≤ n
+Reaches d None n = Unit
 
 -- the samples of the site lie within n samples, and its rows within a table of m
 abbrev pub Lies : Site → ℕ → ℕ → Type 0

@@ -24,11 +24,11 @@ pub struct Moment {
     pub step: f64,
 }
 
-// Where a kernel's neighbours begin and its fraction, or that they are not all there.
+// Where a kernel's neighbours begin, and its fraction.
 #[derive(Clone, Copy)]
-pub enum Place {
-    At(usize, f64),
-    Out,
+pub struct Place {
+    pub start: usize,
+    pub frac: f64,
 }
 
 // The indexes from `least` on and below `end`.
@@ -38,11 +38,12 @@ pub struct Span {
     pub end: f64,
 }
 
-// Where a frame's samples lie: the neighbours of a kernel, or the grid points of a sinc of so many points.
+// Where a frame's samples lie: the neighbours of a kernel, None where they are not all there, or the grid
+// points of a sinc of so many points.
 #[derive(Clone, Copy)]
 pub enum Site {
-    Kernel(PolynomialDegree, Place),
-    Grid(usize, Spots),
+    Kernel(PolynomialDegree, Option<Place>),
+    Grid(usize, Option<Spots>),
 }
 
 // What a look along the path finds: whether every frame is in reach, and the index after the last.
@@ -110,26 +111,20 @@ fn is_within(span: Span, x: f64) -> bool
 
 // The place of the index x: floor and fraction come from `split` and from nowhere else. Within the span
 // floor + shift is a whole number from 0 on, so the sum is exact and the cast loses nothing.
-pub fn place_of(shift: usize, last: usize, x: f64) -> Place
+pub fn place_of(shift: usize, last: usize, x: f64) -> Option<Place>
     requires { (shift < 131072) × (last < 131072) }
     ensures { result ≡ place_of shift last x }
 {
     if is_within(span_of(shift, last), x) {
         let s = whole::split(x);
         let first = s.floor + shift as f64;
-        let place = first as u32 as usize;
-        return Place::At(place, s.frac);
+        let start = first as u32 as usize;
+        return Some(Place {
+            start,
+            frac: s.frac,
+        });
     }
-    Place::Out
-}
-
-fn is_at(p: Place) -> bool
-    ensures { result ≡ is_at p }
-{
-    match p {
-        Place::At(_, _) => true,
-        Place::Out => false,
-    }
+    None
 }
 
 pub fn shift_of(degree: PolynomialDegree) -> usize
@@ -169,7 +164,7 @@ fn is_reached(site: Site) -> bool
     ensures { result ≡ reached site }
 {
     match site {
-        Site::Kernel(_, p) => is_at(p),
+        Site::Kernel(_, p) => p.is_some(),
         Site::Grid(_, spots) => grid_places::all_held(spots),
     }
 }
@@ -221,19 +216,19 @@ pub fn look(kind: Kind, needed: usize, t: f64, d: f64, i: f64, n: usize) -> Look
 }
 
 // A found place and its fraction go to place f of the two lists.
-fn put_place(p: Place, f: usize, places: &mut [usize], fracs: &mut [f64]) -> bool
+fn put_place(p: Option<Place>, f: usize, places: &mut [usize], fracs: &mut [f64]) -> bool
     requires { (f < length places.old) × (f < length fracs.old) }
     ensures found { result ≡ is_at p }
     ensures starts { places.new ≡ put_start p f places.old }
     ensures parts { fracs.new ≡ put_frac p f fracs.old }
 {
     match p {
-        Place::At(s, x) => {
-            places[f] = s;
-            fracs[f] = x;
+        Some(p) => {
+            places[f] = p.start;
+            fracs[f] = p.frac;
             true
         }
-        Place::Out => false,
+        None => false,
     }
 }
 

@@ -1,3 +1,2 @@
 -- The laws of a frame's value by a sinc. Assumes nothing.
 pub mod Sums
-pub mod Values

@@ -21,44 +21,42 @@ fn get_sinc_interpolated(wave: &[f64], row: &[f64]) -> f64
 }
 
 // A grid point's value, of l samples.
-fn point_value(l: usize, table: &[f64], work: &[f64], a: Spot) -> f64
+fn point_value(l: usize, table: &[f64], work: &[f64], a: Option<Spot>) -> f64
     requires { (1 ≤ l) × Fits l (length work.now) (length table.now) a }
     ensures { result ≡ point_value l table.now work.now a }
 {
-    match a {
-        Spot::Held(start, row) => {
-            let b = row * l;
-            get_sinc_interpolated(&work[start..start + l], &table[b..b + l])
-        }
-        Spot::Lost => 0.0,
-    }
+    let Some(Spot { start, row }) = a else {
+        return 0.0;
+    };
+    let b = row * l;
+    get_sinc_interpolated(&work[start..start + l], &table[b..b + l])
 }
 
 // The blend of a frame's grid points.
-pub fn spots_value(l: usize, table: &[f64], work: &[f64], spots: Spots) -> f64
+pub fn spots_value(l: usize, table: &[f64], work: &[f64], spots: Option<Spots>) -> f64
     requires { (1 ≤ l) × FitAll l (length work.now) (length table.now) spots }
     ensures { result ≡ spots_value l table.now work.now spots }
 {
     match spots {
-        Spots::One(a) => point_value(l, table, work, a),
-        Spots::Two(a, b, x) => {
+        Some(Spots::One(a)) => point_value(l, table, work, a),
+        Some(Spots::Two(a, b, x)) => {
             let y0 = point_value(l, table, work, a);
             let y1 = point_value(l, table, work, b);
             asynchro_sinc::lin_on(x, y0, y1)
         }
-        Spots::Three(a, b, c, x) => {
+        Some(Spots::Three(a, b, c, x)) => {
             let y0 = point_value(l, table, work, a);
             let y1 = point_value(l, table, work, b);
             let y2 = point_value(l, table, work, c);
             asynchro_sinc::quad_on(x, y0, y1, y2)
         }
-        Spots::Four(a, b, c, d, x) => {
+        Some(Spots::Four(a, b, c, d, x)) => {
             let y0 = point_value(l, table, work, a);
             let y1 = point_value(l, table, work, b);
             let y2 = point_value(l, table, work, c);
             let y3 = point_value(l, table, work, d);
             asynchro_sinc::cubic_on(x, y0, y1, y2, y3)
         }
-        Spots::Nowhere => 0.0,
+        None => 0.0,
     }
 }

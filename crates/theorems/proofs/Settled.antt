@@ -6,15 +6,11 @@ use Prim.Native.Nat.{ℕ}
 use lib.Ieee.{Float}
 use Rattle.core.specs.declared.result.Result as result
 use Rattle.error.specs.declared.Refusal.{Refusal}
-use Rattle.error.specs.Refusals.{Said, said_answer}
-use Rattle.error.proofs.Settled.{answer_settled}
+use Rattle.error.specs.Refusals.{Said, said_result, said_answer}
+use Rattle.error.proofs.Settled.{result_settled, answer_settled}
 use Rattle.interpolation.specs.declared.Point.{Point}
-use Rattle.interpolation.specs.declared.Times1.{Times1}
-use Rattle.interpolation.specs.declared.Times2.{Times2}
-use Rattle.interpolation.specs.declared.Times3.{Times3}
-use Rattle.interpolation.specs.declared.Times4.{Times4}
-use Rattle.interpolation.specs.Grid.{said_times1, said_times2, said_times3, said_times4}
-use Rattle.interpolation.proofs.Settled.{times1_settled, times2_settled, times3_settled, times4_settled}
+use Rattle.interpolation.specs.Grid.{said_time}
+use Rattle.interpolation.proofs.Settled.{time_settled}
 use Rattle.state.specs.declared.State.{State}
 use Rattle.state.specs.declared.Made.{Made}
 use Rattle.asynchro.specs.declared.Outcome.{Outcome}
@@ -48,17 +44,17 @@ pub answers : (defined : Said Float) (a b : result.Result Float Refusal) → sai
 answers = one_outcome said_answer answer_settled
 
 -- one to four grid points
-pub grid_1 : (defined : Said (List Point)) (a b : Times1) → said_times1 a ≡ defined → said_times1 b ≡ defined → a ≡ b
-grid_1 = one_outcome said_times1 times1_settled
+pub grid_1 : (defined : Said (List Point)) (a b : result.Result Point Refusal) → said_time a ≡ defined → said_time b ≡ defined → a ≡ b
+grid_1 = one_outcome said_time time_settled
 
-pub grid_2 : (defined : Said (List Point)) (a b : Times2) → said_times2 a ≡ defined → said_times2 b ≡ defined → a ≡ b
-grid_2 = one_outcome said_times2 times2_settled
+pub grid_2 : (defined : Said (List Point)) (a b : result.Result (List Point) Refusal) → said_result a ≡ defined → said_result b ≡ defined → a ≡ b
+grid_2 = one_outcome said_result result_settled
 
-pub grid_3 : (defined : Said (List Point)) (a b : Times3) → said_times3 a ≡ defined → said_times3 b ≡ defined → a ≡ b
-grid_3 = one_outcome said_times3 times3_settled
+pub grid_3 : (defined : Said (List Point)) (a b : result.Result (List Point) Refusal) → said_result a ≡ defined → said_result b ≡ defined → a ≡ b
+grid_3 = one_outcome said_result result_settled
 
-pub grid_4 : (defined : Said (List Point)) (a b : Times4) → said_times4 a ≡ defined → said_times4 b ≡ defined → a ≡ b
-grid_4 = one_outcome said_times4 times4_settled
+pub grid_4 : (defined : Said (List Point)) (a b : result.Result (List Point) Refusal) → said_result a ≡ defined → said_result b ≡ defined → a ≡ b
+grid_4 = one_outcome said_result result_settled
 
 -- construction
 pub constructions : (defined : Said State) (a b : Made) → said_made a ≡ defined → said_made b ≡ defined → a ≡ b

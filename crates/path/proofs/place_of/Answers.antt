@@ -14,11 +14,11 @@ held c = subst T (sym c.well_formed.1.1.0.1) tt
 pub int_to_float-first : goal.int_to_float-first
 int_to_float-first c = count_held _ (omega (arith, c.requires))
 
-pub float_to_int-place : goal.float_to_int-place
-float_to_int-place c = cast_asks _ _ _ c.requires.0 c.requires.1 (held (goal.at.float_to_int-place c).Start) _ _ c.span_of.ensures c.is_within.ensures c.if-is_within.true c.split-s.result c.split-s.ensures
+pub float_to_int-start : goal.float_to_int-start
+float_to_int-start c = cast_asks _ _ _ c.requires.0 c.requires.1 (held (goal.at.float_to_int-start c).Start) _ _ c.span_of.ensures c.is_within.ensures c.if-is_within.true c.split-s.result c.split-s.ensures
 
-pub overflow_cast-place : goal.overflow_cast-place
-overflow_cast-place c = omega (arith, cast_few _ _ _ c.requires.0 c.requires.1 (held (goal.at.overflow_cast-place c).Start) _ _ c.span_of.ensures c.is_within.ensures c.if-is_within.true c.split-s.result c.split-s.ensures)
+pub overflow_cast-start : goal.overflow_cast-start
+overflow_cast-start c = omega (arith, cast_few _ _ _ c.requires.0 c.requires.1 (held (goal.at.overflow_cast-start c).Start) _ _ c.span_of.ensures c.is_within.ensures c.if-is_within.true c.split-s.result c.split-s.ensures)
 
 pub returns-then-is_within : goal.returns-then-is_within
 returns-then-is_within c = cast_is _ _ _ c.requires.0 c.requires.1 (held (goal.at.returns-then-is_within c).Start) _ _ c.span_of.ensures c.is_within.ensures c.if-is_within.true c.split-s.result c.split-s.ensures
