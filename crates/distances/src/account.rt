@@ -1,6 +1,6 @@
 // What is kept along a pass: the record, and the line of its calls.
 use asynchro::{Done, Outcome};
-use lines::{Line, Lined, add_block, start_line};
+use lines::{End, Line, add_block, start_line};
 use process::Ran;
 use state::State;
 
@@ -8,7 +8,7 @@ use state::State;
 #[derive(Clone, Copy)]
 pub struct Account {
     pub state: State,
-    pub lined: Lined,
+    pub lined: Result<Line, End>,
     pub good: bool,
 }
 
@@ -35,7 +35,7 @@ fn size_of(n: usize) -> u32 {
 }
 
 // The line after a block of the record s, which left the record `next`.
-fn grown(l: Line, s: State, next: State, used: usize, n: usize) -> Lined {
+fn grown(l: Line, s: State, next: State, used: usize, n: usize) -> Result<Line, End> {
     let t = state::step_now(s);
     let d = plan::t_ratio_increment(s);
     add_block(l, size_of(n), size_of(used), t, d, next.index)
@@ -45,12 +45,12 @@ fn added(a: Account, next: State, used: usize, n: usize) -> Account {
     let s = a.state;
     let lined = a.lined;
     match lined {
-        Lined::On(l) => Account {
+        Ok(l) => Account {
             state: next,
             lined: grown(l, s, next, used, n),
             good: a.good,
         },
-        Lined::Ended(_) => failed(a),
+        Err(_) => failed(a),
     }
 }
 

@@ -1,7 +1,7 @@
 // What is printed of a pass.
 use crate::account::Account;
 use big::Big;
-use lines::{Line, Lined, distance_of, is_inside};
+use lines::{Line, distance_of, is_inside};
 use system::{OUTPUT, System};
 
 // A word, a whole number in decimal, and the line's end.
@@ -40,8 +40,8 @@ pub fn print(sys: &mut System, number: u64, a: Account) {
         return;
     }
     match lined {
-        Lined::On(l) => print_figures(sys, l),
-        Lined::Ended(_) => {
+        Ok(l) => print_figures(sys, l),
+        Err(_) => {
             sys.write_all(OUTPUT, b"refused\n");
         }
     }

@@ -1,6 +1,6 @@
 // The points of the picture: at most 1,024, each of as many blocks as the others.
 use crate::heights::height_of;
-use lines::distance_of;
+use lines::{Line, distance_of};
 use sheets::Sheet;
 use tally::plus;
 
@@ -134,29 +134,28 @@ fn grown(c: Chart, p: Point) -> Chart {
 }
 
 // The open line after a block, as a point.
-fn point_of(s: Sheet) -> Point {
-    let total = s.total;
-    let closed = s.closed;
-    let line = s.line;
-    let most = line.most;
+fn point_of(s: Sheet, line: Line) -> Point {
     Point {
-        at: total.frames,
+        at: s.total.frames,
         apart: height_of(distance_of(line)),
-        most: height_of(most),
+        most: height_of(line.most),
         begins: if line.blocks == 1 {
-            plus(closed.frames, 1)
+            plus(s.closed.frames, 1)
         } else {
             0
         },
     }
 }
 
-// The chart with the block that the sheet took last.
+// The chart with the block that the sheet took last, by which a line is open.
 pub fn with_block(c: Chart, s: Sheet, points: &mut [u64]) -> Chart {
+    let Some(line) = s.line else {
+        return c;
+    };
     if !c.on {
         return c;
     }
-    let g = grown(c, point_of(s));
+    let g = grown(c, point_of(s, line));
     if g.held < g.stride {
         return g;
     }

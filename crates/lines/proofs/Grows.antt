@@ -15,10 +15,9 @@ use Rattle.exact.specs.Running.{tri}
 use Rattle.exact.proofs.Running.{tri_is}
 use Rattle.big.specs.declared.Big.{Big}
 use Rattle.big.specs.Value.{value_of, full, half}
-use Rattle.positions.specs.declared.held.Held.{Held}
-use Rattle.positions.specs.declared.held.Held.TheVariants.{Kept, Left}
-use Rattle.positions.specs.declared.double.FromDouble.{FromDouble}
-use Rattle.positions.specs.declared.double.FromDouble.TheVariants.{Units, Beyond, Other}
+use Rattle.std.specs.Prelude.{Option, Some, None, Result, Ok, Err, ok_or, SomeIff}
+use Rattle.positions.specs.declared.double.NoPosition.{NoPosition}
+use Rattle.positions.specs.declared.double.NoPosition.TheVariants.{Beyond, Other}
 use Rattle.positions.specs.Positions.{one, plain, held_in, inside, is_multiple, position_of, HeldIf, IsHeld, IsDouble}
 use Rattle.positions.specs.Fields.{TimesOf}
 use Rattle.positions.proofs.Holds.{two_halves, same_plain, inside_same, inside_over}
@@ -26,11 +25,9 @@ use Rattle.positions.proofs.Products.{held_same, half_is}
 use Rattle.lines.specs.declared.End.{End}
 use Rattle.lines.specs.declared.End.TheVariants as end
 use Rattle.lines.specs.declared.Line.{Line}
-use Rattle.lines.specs.declared.Lined.{Lined}
-use Rattle.lines.specs.declared.Lined.TheVariants as lined
 use Rattle.lines.specs.declared.Factors.{Factors}
-use Rattle.lines.specs.Lines.{Going, on, ended, check, opened, started, is_count, figures_of, going_of, grown, move_of, block_fits, figures_fit, with_block}
-use Rattle.lines.specs.Steps.{OtherBy, IsTriangle, MovedBy, StoredBy, ramp_by, allowed_by, AfterBy, CountedBy, PlacedBy, GrownBy}
+use Rattle.lines.specs.Lines.{Figures, Going, on, ended, check, opened, started, is_count, figures_of, going_of, end_of, grown, move_of, block_fits, figures_fit, with_block}
+use Rattle.lines.specs.Steps.{LineIf, OtherBy, IsTriangle, MovedBy, StoredBy, ramp_by, allowed_by, AfterBy, CountedBy, PlacedBy, GrownBy}
 
 -- ---- tests joined
 and-false : (b : Bool) → (b && false) ≡ false
@@ -54,19 +51,6 @@ pub stops : (b : Bool) (e : End) (next : Going) → b ≡ false → ended e ≡ 
 unfolding check
 stops b e next h = rw h
 
-held_and : (a b : Bool) (v : Whole) (r : Held) → a ≡ true → HeldIf b v r → HeldIf (a && b) v r
-held_and a b v r e h = subst (λ (x : Bool). HeldIf (x && b) v r) (sym e) h
-
--- ---- whether a double is a position
-pub other_units : (x : FromDouble) (b : Big) → x ≡ Units b → OtherBy x false
-other_units x b e = λ y d. sym (ap not (subst (IsDouble y) e d).0)
-
-pub other_beyond : (x : FromDouble) → x ≡ Beyond → OtherBy x false
-other_beyond x e = λ y d. sym (ap not (subst (IsDouble y) e d).0)
-
-pub other_is : (x : FromDouble) → x ≡ Other → OtherBy x true
-other_is x e = λ y d. sym (ap not (subst (IsDouble y) e d))
-
 -- ---- n*(n+1)/2 in two factors
 pub triangle_even : (n : ℕ) → n % 2 ≡ 0 → IsTriangle n (record { j = n / 2; k = n + 1 })
 triangle_even n e =
@@ -82,57 +66,6 @@ triangle_odd n e =
     let f : n * (n + 1) ≡ n * (2 * (n / 2 + 1)) = ap (λ (x : ℕ). n * x) d in
     (omega (arith, tri_is n, mul_left_comm n 2 h, mul_comm n h), omega (arith, e))
 
--- ---- what a block moves
-once : (n : ℕ) (x : FromDouble) (r : Held) → TimesOf (n * 1) x r → TimesOf n x r
-once n x r h = subst (λ (m : ℕ). TimesOf m x r) (mul-one n) h
-
-pub moved_none : (n : ℕ) (step more : FromDouble) (r : Held) → r ≡ Left → TimesOf (n * 1) step r → MovedBy n step more Left
-moved_none n step more r q h = λ t d p o. and_first _ _ (subst (IsHeld (n ⊙ position_of t)) q (once n step r h t p.0 p.1))
-
-pub moved_flat : (n : ℕ) (step more : FromDouble) (f : Factors) (r : Held) → IsTriangle n f → r ≡ Left → TimesOf (f.j * f.k) more r → MovedBy n step more Left
-moved_flat n step more f r i q h = λ t d p o.
-    let k = subst (λ (m : ℕ). IsHeld (m ⊙ position_of d) r) i.0 (h d o.0 o.1) in
-    and_second (inside (n ⊙ position_of t)) _ (and_first _ (inside (move_of n t d)) (subst (IsHeld (tri n ⊙ position_of d)) q k))
-
-sum_plain : (a b : Big) (v w : Whole) (r : Held) → held_in a ≡ plain v → held_in b ≡ plain w → IsHeld (held_in a ⊕ held_in b) r → IsHeld (v ⊕ w) r
-sum_plain a b v w r p q h =
-    held_same (plain v ⊕ plain w) (v ⊕ w) r (added v.0 v.1 w.0 w.1) (subst (λ (x : Whole). IsHeld (plain v ⊕ x) r) q (subst (λ (x : Whole). IsHeld (x ⊕ held_in b) r) p h))
-  where
-    added : (a b c d : ℕ) → a - b + (c - d) + (b + d) ≡ a + c + (b - a + (d - c))
-    added a b c d = omega arith
-
-pub moved_both : (n : ℕ) (step more : FromDouble) (f : Factors) (x y r : Held) (a b : Big) → IsTriangle n f → x ≡ Kept a → TimesOf (n * 1) step x → y ≡ Kept b → TimesOf (f.j * f.k) more y
-    → IsHeld (held_in a ⊕ held_in b) r → MovedBy n step more r
-moved_both n step more f x y r a b i q h s k m = λ t d p o.
-    let u = subst (IsHeld (n ⊙ position_of t)) q (once n step x h t p.0 p.1) in
-    let w = subst (IsHeld (tri n ⊙ position_of d)) s (subst (λ (z : ℕ). IsHeld (z ⊙ position_of d) y) i.0 (k d o.0 o.1)) in
-    held_and _ _ (move_of n t d) r u.0 (held_and _ _ (move_of n t d) r w.0 (sum_plain a b (n ⊙ position_of t) (tri n ⊙ position_of d) r u.1 w.1 m))
-
--- ---- the stored position
-pub stored_units : (inputs : ℕ) (at : FromDouble) (b : Big) (r : Held) → at ≡ Units b → IsHeld ((inputs * one, 0) ⊕ held_in b) r → StoredBy inputs at r
-stored_units inputs at b r q h = λ i p.
-    let d = subst (IsDouble i) q p.0 in
-    held_and _ _ ((inputs * one, 0) ⊕ position_of i) r d.1 (subst (λ (v : Whole). IsHeld ((inputs * one, 0) ⊕ v) r) d.2 h)
-
-pub stored_beyond : (inputs : ℕ) (at : FromDouble) → at ≡ Beyond → StoredBy inputs at Left
-stored_beyond inputs at q = λ i p. and_first _ _ (subst (IsDouble i) q p.0).1
-
-pub stored_other : (inputs : ℕ) (at : FromDouble) → at ≡ Other → StoredBy inputs at Left
-stored_other inputs at q = λ i p. distinct (sym p.1 ∙ subst (IsDouble i) q p.0)
-
--- ---- the exact position
-pub after_kept : (before w : Big) (way r : Held) → way ≡ Kept w → IsHeld (held_in before ⊕ held_in w) r → AfterBy before way r
-after_kept before w way r q h = λ ok v k.
-    let u = subst (HeldIf ok v) q k in
-    held_and ok _ (held_in before ⊕ v) r u.0
-    (held_same (held_in before ⊕ plain v) (held_in before ⊕ v) r (added (held_in before).0 (held_in before).1 v.0 v.1) (subst (λ (x : Whole). IsHeld (held_in before ⊕ x) r) u.1 h))
-  where
-    added : (a b c d : ℕ) → a + (c - d) + (b + d) ≡ a + c + (b + (d - c))
-    added a b c d = omega arith
-
-pub after_left : (before : Big) (way : Held) → way ≡ Left → AfterBy before way Left
-after_left before way q = λ ok v k. and_first ok _ (subst (HeldIf ok v) q k)
-
 -- ---- the bound
 small : (x : ℕ) → x < 2 ^ 210 → x < half
 unfolding half
@@ -143,9 +76,6 @@ product_few n h =
     let a : n ≤ 4294967295 = omega arith in
     let b : n + 1 ≤ 4294967296 = omega arith in
     omega (arith, mul-le-mul a b)
-
-pub ramp_flat : (n v : ℕ) (flat : Bool) → flat ≡ true → v ≡ 0 → v ≡ ramp_by n flat
-ramp_flat n v flat e z = z ∙ sym (ap (λ (b : Bool). cond b 0 (n * (n + 1) * 2 ^ 146)) e)
 
 shifted : (a v x k : ℕ) → k ≤ 192 → a ≡ x → x < 2 ^ 64 → v ≡ a * 2 ^ k % full → v ≡ x * 2 ^ k
 unfolding full
@@ -169,29 +99,6 @@ allowed_is n a x y v flat h e i k m =
     let f : x < half = small x (subst (λ (z : ℕ). z < 2 ^ 210) (sym u) (lt_of_lt_of_le (shl_lt 33 155 c) (pow_mono {i = 188} {j = 210} (lit≤ tt)))) in
     let g : y < half = small y (subst (λ (z : ℕ). z < 2 ^ 210) (sym k) (ramp_few n flat h)) in
     m ∙ mod-eq_of_lt (omega (arith, two_halves)) ∙ ap (λ (z : ℕ). z + y) u ∙ ap (λ (z : ℕ). (n + 1) * 2 ^ 155 + z) k
-
--- ---- the counts
-pub over_count : (a b : ℕ) → 18446744073709551615 - a < b → is_count (a + b) ≡ false
-over_count a b h = le-ltb (a + b) 18446744073709551616 (omega arith)
-
-pub under_count : (a b : ℕ) → b ≤ 18446744073709551615 - a → a < 18446744073709551616 → is_count (a + b) ≡ true
-under_count a b h l = lt-ltb (a + b) 18446744073709551616 (omega arith)
-
--- ---- the line with its positions
-module _ (m : Line) (exactly stored : Held) where
-  pub placed_none : exactly ≡ Left → PlacedBy m exactly stored (lined.Ended end.Range)
-  placed_none q = λ a b v w h k. stops (a && b) end.Range _ (and_first a b (subst (HeldIf a v) q h))
-
-  pub placed_one : (e : Big) → exactly ≡ Kept e → stored ≡ Left → PlacedBy m exactly stored (lined.Ended end.Range)
-  placed_one e p q = λ a b v w h k. stops (a && b) end.Range _ (and_second a b (subst (HeldIf b w) q k))
-
-  pub placed_both : (e s : Big) → exactly ≡ Kept e → stored ≡ Kept s → PlacedBy m exactly stored (lined.On (record { frames = m.frames; blocks = m.blocks; inputs = m.inputs; exactly = e; stored = s; most = m.most }))
-  placed_both e s p q = λ a b v w h k.
-      let x = subst (HeldIf a v) p h in
-      let y = subst (HeldIf b w) q k in
-      passes (a && b) end.Range _ _ (ap (λ (z : Bool). z && b) x.0 ∙ y.0)
-      (ap (λ (z : Whole). on (record { frames = m.frames; blocks = m.blocks; inputs = m.inputs; exactly = z; stored = held_in s; most = value_of m.most })) x.1
-      ∙ ap (λ (z : Whole). on (record { frames = m.frames; blocks = m.blocks; inputs = m.inputs; exactly = plain v; stored = z; most = value_of m.most })) y.1)
 
 -- ---- the tests of a block and of the line with it, in the order in which they are made
 arranged : (I N D M E S : Bool) → (((N && (D && M)) && E) && (I && S)) ≡ ((I && (N && (D && M))) && (E && (S && (true && true))))
@@ -219,7 +126,7 @@ inputs_over inputs v h k =
     let l : 18446744073709551616 ≤ inputs = ltb-false inputs 18446744073709551616 h in
     inside_over ((inputs * one, 0) ⊕ v) (omega (arith, mul-le-mul_right one l, twice one half half_is, low_side v k))
 
-module _ (l : Line) (n c : ℕ) (step more at : FromDouble) (flat : Bool) where
+module _ (l : Line) (n c : ℕ) (step more at : Result Big NoPosition) (flat : Bool) where
   -- the test that a block is taken by
   abbrev taken : Float → Float → Float → Bool
   taken t d i = block_fits n t d i && figures_fit (grown (figures_of l) n c t d i)
@@ -241,12 +148,10 @@ module _ (l : Line) (n c : ℕ) (step more at : FromDouble) (flat : Bool) where
           and_second (block_fits n t d i) _ (and_second (inside (grown (figures_of l) n c t d i).exactly) _
           (and_first (inside (plain w)) _ (sym (inside_same w (plain w) (same_plain w)) ∙ inputs_over (l.inputs + c) (position_of i) h q)))
 
-  pub grown_over : (r : Lined) (e : End) → r ≡ lined.Ended e → CountedBy l n c flat r → GrownBy l n c step more at flat (lined.Ended e)
-  grown_over r e q h = λ t d i pt pd pi f.
-      let k = subst (CountedBy l n c flat) q h in
-      ap ended k.0 ∙ stops (taken t d i) end.Range (on (grown (figures_of l) n c t d i)) (over t d i k.1)
+  pub grown_over : (r : Option Line) → r ≡ None → CountedBy l n c flat r → GrownBy l n c step more at flat None
+  grown_over r q h = λ t d i pt pd pi f. over t d i (subst (CountedBy l n c flat) q h)
 
-  pub grown_on : (r : Lined) (m : Line) (way e s : Held) (res : Lined) → r ≡ lined.On m → CountedBy l n c flat r → MovedBy n step more way → AfterBy l.exactly way e → StoredBy m.inputs at s → PlacedBy m e s res
+  pub grown_on : (r : Option Line) (m : Line) (way e s : Option Big) (res : Option Line) → r ≡ Some m → CountedBy l n c flat r → MovedBy n step more way → AfterBy l.exactly way e → StoredBy m.inputs at s → PlacedBy m e s res
       → GrownBy l n c step more at flat res
   grown_on r m way e s res q h mv af st pl = λ t d i pt pd pi f.
       let k = subst (CountedBy l n c flat) q h in
@@ -257,7 +162,7 @@ module _ (l : Line) (n c : ℕ) (step more at : FromDouble) (flat : Bool) where
       let I = inside (position_of i) in
       let w : ℕ → Whole = λ x. (x * one, 0) ⊕ position_of i in
       let P : ℕ → ℕ → ℕ → ℕ → Type 0 = λ fr bl inp mo.
-      going_of res ≡ check (((N && (D && M)) && inside v) && (I && inside (w inp))) end.Range (on (record { frames = fr; blocks = bl; inputs = inp; exactly = plain v; stored = plain (w inp); most = mo })) in
+      LineIf (((N && (D && M)) && inside v) && (I && inside (w inp))) (record { frames = fr; blocks = bl; inputs = inp; exactly = plain v; stored = plain (w inp); most = mo }) res in
       let a : P m.frames m.blocks m.inputs (value_of m.most) =
       pl ((N && (D && M)) && inside v) (I && inside (w m.inputs)) v (w m.inputs) (af (N && (D && M)) (move_of n t d) (mv t d pt pd)) (st i pi) in
       let b = subst (λ (x : ℕ). P x m.blocks m.inputs (value_of m.most)) k.0 a in
@@ -271,10 +176,15 @@ module _ (l : Line) (n c : ℕ) (step more at : FromDouble) (flat : Bool) where
       ∙ ap (λ (x : Bool). (I && (N && (D && M))) && (inside (plain v) && (x && (true && true)))) (inside_same W (plain W) (same_plain W))
       ∙ ap (λ (x : Bool). (I && (N && (D && M))) && (inside (plain v) && (inside (plain W) && (x && true)))) (sym k.4)
       ∙ ap (λ (x : Bool). (I && (N && (D && M))) && (inside (plain v) && (inside (plain W) && (is_count (l.frames + n) && x)))) (sym k.5) in
-      b4 ∙ ap (λ (x : Bool). check x end.Range (on (grown (figures_of l) n c t d i))) o
+      subst (λ (x : Bool). LineIf x (grown (figures_of l) n c t d i) res) o b4
+
+-- a line, or that it ends with Range
+ranged : (ok : Bool) (f : Figures) (r : Option Line) → LineIf ok f r → going_of (ok_or r end.Range) ≡ check ok end.Range (on f)
+ranged ok f (Some m) h = passes ok end.Range (on f) (on (figures_of m)) h.0 (ap on h.1)
+ranged ok f None h = stops ok end.Range (on f) h
 
 -- ---- the block as it is: `float`, then the line with it
-module _ (l : Line) (n c : ℕ) (t d i : Float) (step more at : FromDouble) (x y z : Bool) (pt : IsDouble t step) (pd : IsDouble d more) (pi : IsDouble i at) (ox : OtherBy step x) (oy : OtherBy more y) (oz : OtherBy at z) where
+module _ (l : Line) (n c : ℕ) (t d i : Float) (step more at : Result Big NoPosition) (x y z : Bool) (pt : IsDouble t step) (pd : IsDouble d more) (pi : IsDouble i at) (ox : OtherBy step x) (oy : OtherBy more y) (oz : OtherBy at z) where
   abbrev floats : Bool → Bool → Bool → Bool
   floats a b e = not ((a || b) || e)
 
@@ -293,11 +203,11 @@ module _ (l : Line) (n c : ℕ) (t d i : Float) (step more at : FromDouble) (x y
   pub block_float : ((x || y) || z) ≡ true → ended end.Float ≡ with_block (figures_of l) n c t d i
   block_float h = stops (is_multiple t && (is_multiple d && is_multiple i)) end.Float _ (joined ∙ ap not h)
 
-  pub block_grown : (flat : Bool) (r : Lined) → ((x || y) || z) ≡ false → flat ≡ eq d zero_f → GrownBy l n c step more at flat r → going_of r ≡ with_block (figures_of l) n c t d i
+  pub block_grown : (flat : Bool) (r : Option Line) → ((x || y) || z) ≡ false → flat ≡ eq d zero_f → GrownBy l n c step more at flat r → going_of (ok_or r end.Range) ≡ with_block (figures_of l) n c t d i
   block_grown flat r h f g =
       let m : (is_multiple t && (is_multiple d && is_multiple i)) ≡ true = joined ∙ ap not h in
       let k = three (is_multiple t) (is_multiple d) (is_multiple i) m in
-      passes (is_multiple t && (is_multiple d && is_multiple i)) end.Float _ (going_of r) m (g t d i (pt, k.0) (pd, k.1) (pi, k.2) f)
+      passes (is_multiple t && (is_multiple d && is_multiple i)) end.Float _ (going_of (ok_or r end.Range)) m (ranged _ _ r (g t d i (pt, k.0) (pd, k.1) (pi, k.2) f))
     where
       three : (a b e : Bool) → (a && (b && e)) ≡ true → (a ≡ true) × (b ≡ true) × (e ≡ true)
       three true true e q = (refl, refl, q)
@@ -305,15 +215,14 @@ module _ (l : Line) (n c : ℕ) (t d i : Float) (step more at : FromDouble) (x y
       three false b e q = distinct (sym q)
 
 -- ---- a start
-pub start_on : (x : Float) (r : FromDouble) (b : Big) (l : Line) → r ≡ Units b → IsDouble x r → figures_of l ≡ opened (held_in b) → on (figures_of l) ≡ started x
+pub start_on : (x : Float) (r : Result Big NoPosition) (b : Big) (l : Line) → r ≡ Ok b → IsDouble x r → figures_of l ≡ opened (held_in b) → on (figures_of l) ≡ started x
 start_on x r b l q h e =
     let d = subst (IsDouble x) q h in
     passes (is_multiple x) end.Float _ _ d.0 (passes (inside (position_of x)) end.Range _ _ d.1 (ap on (e ∙ ap opened d.2)))
 
-pub start_range : (x : Float) (r : FromDouble) → r ≡ Beyond → IsDouble x r → ended end.Range ≡ started x
-start_range x r q h =
-    let d = subst (IsDouble x) q h in
-    passes (is_multiple x) end.Float _ _ d.0 (stops (inside (position_of x)) end.Range _ d.1)
-
-pub start_float : (x : Float) (r : FromDouble) → r ≡ Other → IsDouble x r → ended end.Float ≡ started x
-start_float x r q h = stops (is_multiple x) end.Float _ (subst (IsDouble x) q h)
+pub start_not : (x : Float) (r : Result Big NoPosition) (w : NoPosition) → r ≡ Err w → IsDouble x r → ended (end_of w) ≡ started x
+start_not x r w q h = go w (subst (IsDouble x) q h)
+  where
+    go : (z : NoPosition) → IsDouble x (Err z) → ended (end_of z) ≡ started x
+    go Beyond d = passes (is_multiple x) end.Float _ _ d.0 (stops (inside (position_of x)) end.Range _ d.1)
+    go Other d = stops (is_multiple x) end.Float _ d

@@ -1,17 +1,17 @@
 -- Document 02, R-13: a line of the sheet, and what a start and a block do to it, of a log or of live calls. Definitions only.
 -- Positions are counted in units of 2^-192, the bound too.
-use Rattle.std.specs.Prelude.{Bool, true, false, cond, ◌&&◌, ℕ, ◌+◌, ◌*◌, ◌%◌, ◌^◌, leb, ltb, Float}
+use Rattle.std.specs.Prelude.{Bool, true, false, cond, ◌&&◌, ℕ, ◌+◌, ◌*◌, ◌%◌, ◌^◌, leb, ltb, Float, Result, Ok, Err}
 use Rattle.std.specs.Float.Ieee.{eq}
 use Rattle.exact.specs.Doubles.{zero_f}
 use Rattle.exact.specs.Whole.{Whole, ◌⊕◌, ◌⊙◌}
 use Rattle.exact.specs.Running.{tri}
 use Rattle.big.specs.Value.{value_of, full}
 use Rattle.positions.specs.Positions.{one, plain, held_in, inside, apart, is_multiple, position_of}
+use Rattle.positions.specs.declared.double.NoPosition.{NoPosition}
+use Rattle.positions.specs.declared.double.NoPosition.TheVariants.{Beyond, Other}
 use Rattle.lines.specs.declared.End.{End}
 use Rattle.lines.specs.declared.End.TheVariants as end
 use Rattle.lines.specs.declared.Line.{Line}
-use Rattle.lines.specs.declared.Lined.{Lined}
-use Rattle.lines.specs.declared.Lined.TheVariants as lined
 
 -- "Report per stream N, B, the exact position, the stored position": the line's figures, the input sizes answered, and the bound
 pub record Figures : Type 0 where
@@ -91,6 +91,11 @@ is_inside f = leb (distance_of f) f.most
 abbrev pub figures_of : Line → Figures
 figures_of l = record { frames = l.frames; blocks = l.blocks; inputs = l.inputs; exactly = held_in l.exactly; stored = held_in l.stored; most = value_of l.most }
 
-abbrev pub going_of : Lined → Going
-going_of (lined.On l) = on (figures_of l)
-going_of (lined.Ended e) = ended e
+abbrev pub going_of : Result Line End → Going
+going_of (Ok l) = on (figures_of l)
+going_of (Err e) = ended e
+
+-- the word for a double that is no position
+abbrev pub end_of : NoPosition → End
+end_of Beyond = end.Range
+end_of Other = end.Float

@@ -6,11 +6,11 @@ mod adding;
 ghost use Rattle.std.specs.Prelude.{◌≡◌};
 ghost use Rattle.big.specs.Value.{value_of};
 ghost use Rattle.positions.specs.Positions.{held_in};
-ghost use Rattle.lines.specs.Lines.{opened, started, figures_of, going_of, distance_of, is_inside};
+ghost use Rattle.lines.specs.Lines.{opened, started, figures_of, going_of, distance_of, is_inside, end_of};
 
 pub use adding::add_block;
 use big::{Big, at_most, of_u64};
-use positions::{FromDouble, distance, of_double};
+use positions::{NoPosition, distance, of_double};
 
 // How a line ends, or why a record is no call: the log ended, a start closed it, a block before any start, a
 // payload of another length, a float that is no position, a number that would leave its range.
@@ -24,6 +24,17 @@ pub enum End {
     Range,
 }
 
+impl From<NoPosition> for End {
+    ghost from_gives = { λ no end. end ≡ end_of no };
+
+    fn from(no: NoPosition) -> End {
+        match no {
+            NoPosition::Beyond => End::Range,
+            NoPosition::Other => End::Float,
+        }
+    }
+}
+
 // The output frames N, the blocks B, the input sizes answered, the exact and the stored position and the
 // bound of their distance, these three in units of 2^-192.
 #[derive(Clone, Copy)]
@@ -34,13 +45,6 @@ pub struct Line {
     pub exactly: Big,
     pub stored: Big,
     pub most: Big,
-}
-
-// A line that goes on, or what it ends with.
-#[derive(Clone, Copy)]
-pub enum Lined {
-    On(Line),
-    Ended(End),
 }
 
 // Two factors of a number.
@@ -65,29 +69,23 @@ fn line_at(start: Big) -> Line
 }
 
 // The line of a construction or a reset that left this index. Ends at once with Float or Range.
-pub fn start_line(index: f64) -> Lined
+pub fn start_line(index: f64) -> Result<Line, End>
     ensures { going_of result ≡ started index }
 {
-    match of_double(index) {
-        FromDouble::Units(b) => Lined::On(line_at(b)),
-        FromDouble::Beyond => Lined::Ended(End::Range),
-        FromDouble::Other => Lined::Ended(End::Float),
-    }
+    let start = of_double(index)?;
+    Ok(line_at(start))
 }
 
 // How far the stored position is from the exact one, in units of 2^-192 without a sign.
 pub fn distance_of(l: Line) -> Big
     ensures { value_of result ≡ distance_of (figures_of l) }
 {
-    let exactly = l.exactly;
-    let stored = l.stored;
-    distance(exactly, stored)
+    distance(l.exactly, l.stored)
 }
 
 // Whether the distance is at most the bound.
 pub fn is_inside(l: Line) -> bool
     ensures { result ≡ is_inside (figures_of l) }
 {
-    let most = l.most;
-    at_most(distance_of(l), most)
+    at_most(distance_of(l), l.most)
 }

@@ -8,19 +8,24 @@ mod quotients;
 mod told;
 
 use big::Big;
-use lines::{End, Line, Lined};
+use lines::{End, Line};
 pub use told::{tell_line, write_block};
 
-// The line as it stands, or as it stood before the block that it ended with, and where it began. `end` is 0
-// while it goes on, 1 where it ended with Float and 2 with Range; `now` says that the last block ended it.
-// `rounding` is the sum of n*(t - 1/r) over the blocks of n frames with no ramp pending, of the ratio r and its
-// step t; the blocks with a ramp pending, and their frames, are counted beside it.
+// What a line ended with, and whether the last block ended it.
+#[derive(Clone, Copy)]
+pub struct Ended {
+    pub end: End,
+    pub now: bool,
+}
+
+// The line as it stands, or as it stood before the block that it ended with, where it began, and what it ended
+// with, if it has ended. `rounding` is the sum of n*(t - 1/r) over the blocks of n frames with no ramp pending,
+// of the ratio r and its step t; the blocks with a ramp pending, and their frames, are counted beside it.
 #[derive(Clone, Copy)]
 pub struct PassLine {
     pub line: Line,
     pub start: Big,
-    pub end: u64,
-    pub now: bool,
+    pub ended: Option<Ended>,
     pub rounding: f64,
     pub ramp_blocks: u64,
     pub ramp_frames: u64,
@@ -39,20 +44,11 @@ pub struct Step {
     pub flat: bool,
 }
 
-fn word_of(e: End) -> u64 {
-    match e {
-        End::Float => 1,
-        _ => 2,
-    }
-}
-
-fn pass_line(line: Line, end: u64) -> PassLine {
-    let start = line.exactly;
+fn pass_line(line: Line, ended: Option<Ended>) -> PassLine {
     PassLine {
         line,
-        start,
-        end,
-        now: false,
+        start: line.exactly,
+        ended,
         rounding: 0.0,
         ramp_blocks: 0,
         ramp_frames: 0,
@@ -74,27 +70,16 @@ fn no_line() -> Line {
 // The line of a construction that left this index.
 pub fn started(index: f64) -> PassLine {
     match lines::start_line(index) {
-        Lined::On(line) => pass_line(line, 0),
-        Lined::Ended(e) => pass_line(no_line(), word_of(e)),
+        Ok(line) => pass_line(line, None),
+        Err(end) => pass_line(no_line(), Some(Ended { end, now: false })),
     }
 }
 
 // The line that an accepted block gives; a size of 2^32 or more, which no block has, would leave its range.
-fn added(l: Line, s: Step) -> Lined {
-    if s.output > 4294967295 {
-        return Lined::Ended(End::Range);
-    }
-    if s.input > 4294967295 {
-        return Lined::Ended(End::Range);
-    }
-    lines::add_block(l, s.output as u32, s.input as u32, s.t, s.d, s.index)
-}
-
-fn ended(p: PassLine, end: u64, now: bool) -> PassLine {
-    let mut q = p;
-    q.end = end;
-    q.now = now;
-    q
+fn added(l: Line, s: Step) -> Result<Line, End> {
+    let output = u32::try_from(s.output).map_err(|_| End::Range)?;
+    let input = u32::try_from(s.input).map_err(|_| End::Range)?;
+    lines::add_block(l, output, input, s.t, s.d, s.index)
 }
 
 // The pass with the line that a block gave, and the block's part of the rounding.
@@ -112,12 +97,18 @@ fn grown(p: PassLine, line: Line, s: Step) -> PassLine {
 
 // The line with an accepted block. One that has ended stays as it is.
 pub fn with_block(p: PassLine, s: Step) -> PassLine {
-    let line = p.line;
-    if p.end > 0 {
-        return ended(p, p.end, false);
-    }
-    match added(line, s) {
-        Lined::On(next) => grown(p, next, s),
-        Lined::Ended(e) => ended(p, word_of(e), true),
+    let ended = match p.ended {
+        Some(before) => Ended {
+            end: before.end,
+            now: false,
+        },
+        None => match added(p.line, s) {
+            Ok(next) => return grown(p, next, s),
+            Err(end) => Ended { end, now: true },
+        },
+    };
+    PassLine {
+        ended: Some(ended),
+        ..p
     }
 }

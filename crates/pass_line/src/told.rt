@@ -1,10 +1,10 @@
 // What the log has of a line: its positions behind each block, and at the end all its figures and, for
 // comparison, what else a pass is off by. The operator sees the comparison.
-use crate::PassLine;
 use crate::numbers::{put_number, put_with_bits};
 use crate::quotients::samples_in;
+use crate::{Ended, PassLine};
 use big::Big;
-use lines::{Line, distance_of, is_inside};
+use lines::{End, Line, distance_of, is_inside};
 use position_text::{put_length, put_position, put_rounded_length, put_rounded_position};
 use printer::{bytes_of, put_bytes};
 use system::System;
@@ -30,26 +30,23 @@ fn put_positions(out: &mut [u8], at: usize, l: Line) -> usize {
     put_size(out, second, b" distance ", distance_of(l))
 }
 
-// The word that a line ended with.
-fn put_end(out: &mut [u8], at: usize, end: u64) -> usize {
-    if end == 0 {
+// The word that a line ended with, if it has ended.
+fn put_end(out: &mut [u8], at: usize, ended: Option<Ended>) -> usize {
+    let Some(e) = ended else {
         return at;
+    };
+    match e.end {
+        End::Float => put_bytes(out, at, b" ended float"),
+        _ => put_bytes(out, at, b" ended range"),
     }
-    if end == 1 {
-        return put_bytes(out, at, b" ended float");
-    }
-    put_bytes(out, at, b" ended range")
 }
 
 // The positions behind a block; the word behind the block that ended the line, and nothing behind later ones.
 fn put_after(out: &mut [u8], at: usize, p: PassLine) -> usize {
-    if p.end == 0 {
-        return put_positions(out, at, p.line);
+    match p.ended {
+        None => put_positions(out, at, p.line),
+        Some(e) => { if e.now { put_end(out, at, p.ended) } else { at } }
     }
-    if p.now {
-        return put_end(out, at, p.end);
-    }
-    at
 }
 
 // Writes the line of a block: the form with its numbers, and the positions behind it.
@@ -77,7 +74,7 @@ fn write_line(sys: &mut System, log: i32, p: PassLine) -> bool {
     let positions = put_positions(&mut text, front, l);
     let most = put_size(&mut text, positions, b" bound ", l.most);
     let inside = put_inside(&mut text, most, l);
-    let end = put_end(&mut text, inside, p.end);
+    let end = put_end(&mut text, inside, p.ended);
     let n = put_bytes(&mut text, end, b"\n");
     let k = bytes_of(&text, n);
     sys.write_all(log, &text[..k])

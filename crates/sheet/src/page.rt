@@ -74,12 +74,21 @@ fn with_row(sys: &mut System, p: Page, log: Log, l: Line, end: End, place: u64, 
 }
 
 // Tells what there is to tell of the record at the place, or of the log's end there.
-pub fn with_told(sys: &mut System, p: Page, log: Log, told: Told, place: u64, cut: bool) -> Page {
-    match told {
-        Told::Quiet => p,
-        Told::Row(l, end) => with_row(sys, p, log, l, end, place, cut),
-        Told::Word(end) => {
-            let done = write_word(sys, log.word, end, place);
+pub fn with_told(
+    sys: &mut System,
+    p: Page,
+    log: Log,
+    told: Option<Told>,
+    place: u64,
+    cut: bool,
+) -> Page {
+    let Some(t) = told else {
+        return p;
+    };
+    match t.line {
+        Some(l) => with_row(sys, p, log, l, t.end, place, cut),
+        None => {
+            let done = write_word(sys, log.word, t.end, place);
             written(sys, p, done, true, false)
         }
     }

@@ -1,7 +1,7 @@
 // The line and the log along the calls on the one record. The log stands in lent bytes.
 use crate::texts::put_line as put_figures;
 use big::Big;
-use lines::{Line, Lined, add_block, start_line};
+use lines::{End, Line, add_block, start_line};
 use log_calls::{put_block, put_setting, put_start};
 use log_words::put_hexes;
 use log_writer::Put;
@@ -124,10 +124,10 @@ fn with_line(before: Live, l: Line) -> Live {
 }
 
 // A line that goes on, or none any more.
-fn with_lined(before: Live, lined: Lined) -> Live {
+fn with_lined(before: Live, lined: Result<Line, End>) -> Live {
     match lined {
-        Lined::On(l) => with_line(before, l),
-        Lined::Ended(_) => lost(before),
+        Ok(l) => with_line(before, l),
+        Err(_) => lost(before),
     }
 }
 

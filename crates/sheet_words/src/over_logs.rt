@@ -38,11 +38,13 @@ fn put_word(out: &mut [u8], at: usize, end: End) -> usize {
     put_end(out, p, end)
 }
 
-fn put_told(out: &mut [u8], at: usize, told: Told) -> usize {
-    match told {
-        Told::Quiet => at,
-        Told::Row(l, end) => put_row(out, at, l, end),
-        Told::Word(end) => put_word(out, at, end),
+fn put_told(out: &mut [u8], at: usize, told: Option<Told>) -> usize {
+    let Some(t) = told else {
+        return at;
+    };
+    match t.line {
+        Some(l) => put_row(out, at, l, t.end),
+        None => put_word(out, at, t.end),
     }
 }
 

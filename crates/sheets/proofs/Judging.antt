@@ -11,67 +11,30 @@ use borrow.Author.Tests.{eq-eqb, ne_eqb}
 use Rattle.exact.specs.Whole.{Whole, ◌⊕◌}
 use Rattle.samples.specs.Samples.{little_from, sample_at}
 use Rattle.big.specs.declared.Big.{Big}
-use Rattle.positions.specs.declared.held.Held.{Held}
-use Rattle.positions.specs.declared.held.Held.TheVariants.{Kept, Left}
+use Rattle.std.specs.Prelude.{Option, Some, None, Result, Ok, Err}
 use Rattle.positions.specs.Positions.{plain, held_in, inside, HeldIf, IsHeld}
 use Rattle.big.specs.Value.{value_of}
 use Rattle.positions.proofs.Holds.{half_above, held_plain, same_plain, inside_same}
 use Rattle.lines.specs.declared.End.{End}
 use Rattle.lines.specs.declared.End.TheVariants as end
 use Rattle.lines.specs.declared.Line.{Line}
-use Rattle.lines.specs.declared.Lined.{Lined}
-use Rattle.lines.specs.declared.Lined.TheVariants as lined
 use Rattle.lines.specs.Lines.{Figures, is_count, started, with_block, figures_of, going_of}
 use Rattle.sheets.specs.declared.Total.{Total}
 use Rattle.sheets.specs.declared.Sheet.{Sheet}
-use Rattle.sheets.specs.declared.Sum.{Sum}
-use Rattle.sheets.specs.declared.Sum.TheVariants as sum
 use Rattle.sheets.specs.Sheet.{Sums, nothing, plus, sums_fit, none, line, Page, empty, Row, quiet, row, word, Judged, end_row, line_row, bad, closed_row, with_total, with_line, start, block, block_on, judge, sums_of, current_of, page_of}
 use Rattle.sheets.specs.Steps.{SumIf, SummedBy, CountedBy, PlacedBy}
 
--- ---- tests joined
-and-false : (b : Bool) → (b && false) ≡ false
-and-false true = refl
-and-false false = refl
-
-and_first : (a b : Bool) → a ≡ false → (a && b) ≡ false
-and_first a b e = ap (λ (x : Bool). x && b) e
-
-and_second : (a b : Bool) → b ≡ false → (a && b) ≡ false
-and_second a b e = ap (λ (x : Bool). a && x) e ∙ and-false a
-
 -- ---- the total with a line
-module _ (m : Total) (exactly stored : Held) where
-  pub placed_none : exactly ≡ Left → PlacedBy m exactly stored sum.Over
-  placed_none q = λ a b v w h k. and_first a b (subst (HeldIf a v) q h)
-
-  pub placed_one : stored ≡ Left → PlacedBy m exactly stored sum.Over
-  placed_one q = λ a b v w h k. and_second a b (subst (HeldIf b w) q k)
-
-  pub placed_both : (e s : Big) → exactly ≡ Kept e → stored ≡ Kept s → PlacedBy m exactly stored (sum.Fits (record { frames = m.frames; blocks = m.blocks; exactly = e; stored = s }))
-  placed_both e s p q = λ a b v w h k.
-      let x = subst (HeldIf a v) p h in
-      let y = subst (HeldIf b w) q k in
-      let f : Whole → Whole → Sums = λ c d. record { frames = m.frames; blocks = m.blocks; exactly = c; stored = d } in
-      (ap (λ (z : Bool). z && b) x.0 ∙ y.0, ap (λ (z : Whole). f z (held_in s)) x.1 ∙ ap (f (plain v)) y.1)
-
 module _ (t : Total) (l : Line) where
   abbrev with : Sums
   with = plus (sums_of t) (figures_of l)
-
-  pub sum_over : (r : Sum) → r ≡ sum.Over → CountedBy t l r → SummedBy t l sum.Over
-  sum_over r q h = go (subst (CountedBy t l) q h)
-    where
-      go : (is_count (t.frames + l.frames) ≡ false) ⊎ (is_count (t.blocks + l.blocks) ≡ false) → sums_fit with ≡ false
-      go (inl k) = and_second (inside with.exactly) _ (and_second (inside with.stored) _ (and_first _ (is_count (t.blocks + l.blocks)) k))
-      go (inr k) = and_second (inside with.exactly) _ (and_second (inside with.stored) _ (and_second (is_count (t.frames + l.frames)) _ k))
 
   arranged : (E S : Bool) → (E && S) ≡ (E && (S && (true && true)))
   arranged false S = refl
   arranged true false = refl
   arranged true true = refl
 
-  pub sum_on : (r : Sum) (m : Total) (e s : Held) (res : Sum) → r ≡ sum.Fits m → CountedBy t l r → IsHeld (held_in t.exactly ⊕ held_in l.exactly) e → IsHeld (held_in t.stored ⊕ held_in l.stored) s
+  pub sum_on : (r : Option Total) (m : Total) (e s : Option Big) (res : Option Total) → r ≡ Some m → CountedBy t l r → IsHeld (held_in t.exactly ⊕ held_in l.exactly) e → IsHeld (held_in t.stored ⊕ held_in l.stored) s
       → PlacedBy m e s res → SummedBy t l res
   sum_on r m e s res q h he hs pl =
       let k = subst (CountedBy t l) q h in
@@ -89,25 +52,12 @@ module _ (t : Total) (l : Line) where
       ∙ ap (λ (x : Bool). inside (plain v) && (inside (plain w) && (is_count (t.frames + l.frames) && x))) (sym k.3) in
       subst (λ (x : Bool). P x (t.frames + l.frames) (t.blocks + l.blocks)) o c
 
--- ---- what is told of the open line
-pub told_open : (s : Sheet) (e : End) → s.is_open ≡ true → row (figures_of s.line) e ≡ end_row (current_of s) e
-told_open s e h = sym (ap (λ (b : Bool). end_row (cond b (line (figures_of s.line)) none) e) h)
-
-pub told_none : (s : Sheet) (e : End) → s.is_open ≡ false → word e ≡ end_row (current_of s) e
-told_none s e h = sym (ap (λ (b : Bool). end_row (cond b (line (figures_of s.line)) none) e) h)
-
-pub line_open : (s : Sheet) (e : End) → s.is_open ≡ true → row (figures_of s.line) e ≡ line_row (current_of s) e
-line_open s e h = sym (ap (λ (b : Bool). line_row (cond b (line (figures_of s.line)) none) e) h)
-
-pub line_none : (s : Sheet) (e : End) → s.is_open ≡ false → quiet ≡ line_row (current_of s) e
-line_none s e h = sym (ap (λ (b : Bool). line_row (cond b (line (figures_of s.line)) none) e) h)
-
 -- ---- a turn by its three parts
 pub turned : (p q : Page) (r t : Row) (b : Bool) → p ≡ q → r ≡ t → ◌≡◌ {A = Judged} (record { page = p; row = r; reads = b }) (record { page = q; row = t; reads = b })
 turned p q r t b e f = ap (λ (x : Page). record { page = x; row = r; reads = b }) e ∙ ap (λ (x : Row). record { page = q; row = x; reads = b }) f
 
 module _ (p : Page) (s : Sums) (r : Row) (f : Figures) where
-  pub total_fits : (t : Sum) (m : Total) → t ≡ sum.Fits m → SumIf (sums_fit (plus s f)) (plus s f) t
+  pub total_fits : (t : Option Total) (m : Total) → t ≡ Some m → SumIf (sums_fit (plus s f)) (plus s f) t
       → ◌≡◌ {A = Judged} (record { page = record { closed = s; total = sums_of m; current = line f }; row = r; reads = true }) (with_total p s r f)
   unfolding with_total
   total_fits t m q h =
@@ -115,20 +65,20 @@ module _ (p : Page) (s : Sums) (r : Row) (f : Figures) where
       let g : Sums → Judged = λ x. record { page = record { closed = s; total = x; current = line f }; row = r; reads = true } in
       ap g k.1 ∙ sym (ap (λ (b : Bool). cond b (g (plus s f)) (bad p end.Range)) k.0)
 
-  pub total_over : (t : Sum) (j : Judged) → t ≡ sum.Over → SumIf (sums_fit (plus s f)) (plus s f) t → j ≡ bad p end.Range → j ≡ with_total p s r f
+  pub total_over : (t : Option Total) (j : Judged) → t ≡ None → SumIf (sums_fit (plus s f)) (plus s f) t → j ≡ bad p end.Range → j ≡ with_total p s r f
   unfolding with_total
   total_over t j q h e =
       let g : Judged = record { page = record { closed = s; total = plus s f; current = line f }; row = r; reads = true } in
       e ∙ sym (ap (λ (b : Bool). cond b g (bad p end.Range)) (subst (SumIf (sums_fit (plus s f)) (plus s f)) q h))
 
 module _ (p : Page) (s : Sums) (r : Row) where
-  pub line_on : (g : Lined) (l : Line) (j : Judged) → g ≡ lined.On l → j ≡ with_total p s r (figures_of l) → j ≡ with_line p s r (going_of g)
+  pub line_on : (g : Result Line End) (l : Line) (j : Judged) → g ≡ Ok l → j ≡ with_total p s r (figures_of l) → j ≡ with_line p s r (going_of g)
   unfolding with_line
-  line_on g l j q h = h ∙ sym (ap (λ (x : Lined). with_line p s r (going_of x)) q)
+  line_on g l j q h = h ∙ sym (ap (λ (x : Result Line End). with_line p s r (going_of x)) q)
 
-  pub line_ended : (g : Lined) (e : End) (j : Judged) → g ≡ lined.Ended e → j ≡ bad p e → j ≡ with_line p s r (going_of g)
+  pub line_ended : (g : Result Line End) (e : End) (j : Judged) → g ≡ Err e → j ≡ bad p e → j ≡ with_line p s r (going_of g)
   unfolding with_line
-  line_ended g e j q h = h ∙ sym (ap (λ (x : Lined). with_line p s r (going_of x)) q)
+  line_ended g e j q h = h ∙ sym (ap (λ (x : Result Line End). with_line p s r (going_of x)) q)
 
 -- ---- a payload's four bytes
 pub four_bytes : (bs : List ℕ) (at a b c d : ℕ) → a ≡ get_or bs at 0 → b ≡ get_or bs (at + 1) 0 → c ≡ get_or bs (at + 2) 0 → d ≡ get_or bs (at + 3) 0
@@ -162,13 +112,13 @@ module _ (p : Page) (payload : List ℕ) (j : Judged) where
     block_is h e = e ∙ sym (ap (λ (b : Bool). cond b grows (bad p end.Payload)) (eq-eqb (length payload) 32 h))
 
 -- ---- a block where a line is open, and where none is
-pub block_open : (s : Sheet) (payload : List ℕ) (j : Judged) → s.is_open ≡ true → j ≡ block (page_of s) (figures_of s.line) payload → j ≡ block_on (page_of s) (current_of s) payload
+pub block_open : (s : Sheet) (l : Line) (payload : List ℕ) (j : Judged) → s.line ≡ Some l → j ≡ block (page_of s) (figures_of l) payload → j ≡ block_on (page_of s) (current_of s.line) payload
 unfolding block_on
-block_open s payload j h e = e ∙ sym (ap (λ (b : Bool). block_on (page_of s) (cond b (line (figures_of s.line)) none) payload) h)
+block_open s l payload j h e = e ∙ sym (ap (λ (o : Option Line). block_on (page_of s) (current_of o) payload) h)
 
-pub block_early : (s : Sheet) (payload : List ℕ) (j : Judged) → s.is_open ≡ false → j ≡ bad (page_of s) end.Early → j ≡ block_on (page_of s) (current_of s) payload
+pub block_early : (s : Sheet) (payload : List ℕ) (j : Judged) → s.line ≡ None → j ≡ bad (page_of s) end.Early → j ≡ block_on (page_of s) (current_of s.line) payload
 unfolding block_on
-block_early s payload j h e = e ∙ sym (ap (λ (b : Bool). block_on (page_of s) (cond b (line (figures_of s.line)) none) payload) h)
+block_early s payload j h e = e ∙ sym (ap (λ (o : Option Line). block_on (page_of s) (current_of o) payload) h)
 
 -- ---- by the kind
 module _ (p : Page) (kind : ℕ) (payload : List ℕ) (j : Judged) where
@@ -195,6 +145,3 @@ pub nothing_is : (a b : Big) → value_of a ≡ 0 → value_of b ≡ 0 → sums_
 nothing_is a b e f =
     let g : Whole → Whole → Sums = λ c d. record { frames = 0; blocks = 0; exactly = c; stored = d } in
     ap (λ (v : Whole). g v (held_in b)) (held_none a e) ∙ ap (g (0, 0)) (held_none b f)
-
-pub empty_is : (a b : Sums) → a ≡ nothing → b ≡ nothing → ◌≡◌ {A = Page} (record { closed = a; total = b; current = none }) empty
-empty_is a b e f = ap (λ (s : Sums). record { closed = s; total = b; current = none }) e ∙ ap (λ (s : Sums). record { closed = nothing; total = s; current = none }) f

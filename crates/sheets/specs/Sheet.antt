@@ -1,15 +1,15 @@
 -- Document 02, R-13: the sheet, which is the total and the open line, and what a record of a log does to it. Definitions only.
-use Rattle.std.specs.Prelude.{Bool, true, false, cond, ◌&&◌, List, ℕ, ◌+◌, eqb, length}
+use Rattle.std.specs.Prelude.{Bool, true, false, cond, ◌&&◌, List, ℕ, ◌+◌, eqb, length, Option, Some, None}
 use Rattle.exact.specs.Whole.{Whole, ◌⊕◌}
 use Rattle.samples.specs.Samples.{little_from, sample_at}
 use Rattle.positions.specs.Positions.{plain, held_in, inside}
+use Rattle.lines.specs.declared.Line.{Line}
 use Rattle.lines.specs.declared.End.{End}
 use Rattle.lines.specs.declared.End.TheVariants as end
 use Rattle.lines.specs.Lines.{Figures, is_count, Going, on, ended, started, with_block, figures_of}
 use Rattle.sheets.specs.declared.Total.{Total}
 use Rattle.sheets.specs.declared.Sheet.{Sheet}
 use Rattle.sheets.specs.declared.Told.{Told}
-use Rattle.sheets.specs.declared.Told.TheVariants as told
 use Rattle.sheets.specs.declared.Turn.{Turn}
 
 -- "a total over streams that equals the sum of the parts"
@@ -117,16 +117,16 @@ log_end p = record { page = closing p; row = line_row p.current end.Open; reads 
 abbrev pub sums_of : Total → Sums
 sums_of t = record { frames = t.frames; blocks = t.blocks; exactly = held_in t.exactly; stored = held_in t.stored }
 
-abbrev pub current_of : Sheet → Current
-current_of s = cond s.is_open (line (figures_of s.line)) none
+abbrev pub current_of : Option Line → Current
+current_of (Some l) = line (figures_of l)
+current_of None = none
 
 abbrev pub page_of : Sheet → Page
-page_of s = record { closed = sums_of s.closed; total = sums_of s.total; current = current_of s }
+page_of s = record { closed = sums_of s.closed; total = sums_of s.total; current = current_of s.line }
 
-abbrev pub row_of : Told → Row
-row_of told.Quiet = quiet
-row_of (told.Row l e) = row (figures_of l) e
-row_of (told.Word e) = word e
+abbrev pub row_of : Option Told → Row
+row_of None = quiet
+row_of (Some t) = end_row (current_of t.line) t.end
 
 abbrev pub judged_of : Turn → Judged
 judged_of t = record { page = page_of t.sheet; row = row_of t.told; reads = t.reads }

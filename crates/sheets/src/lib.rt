@@ -25,32 +25,22 @@ pub struct Total {
 pub struct Sheet {
     pub closed: Total,
     pub total: Total,
-    pub is_open: bool,
-    pub line: Line,
+    pub line: Option<Line>,
 }
 
-// What is told of a record: nothing, a line that has ended, or the word of a bad record where no line is
-// open.
+// How a line has ended, or the word of a bad record where no line is open.
 #[derive(Clone, Copy)]
-pub enum Told {
-    Quiet,
-    Row(Line, End),
-    Word(End),
+pub struct Told {
+    pub line: Option<Line>,
+    pub end: End,
 }
 
-// The sheet after a record, what is told of it, and whether the log is read on.
+// The sheet after a record, what is told of it, if anything is, and whether the log is read on.
 #[derive(Clone, Copy)]
 pub struct Turn {
     pub sheet: Sheet,
-    pub told: Told,
+    pub told: Option<Told>,
     pub reads: bool,
-}
-
-// A total, or that it would leave its range.
-#[derive(Clone, Copy)]
-pub enum Sum {
-    Fits(Total),
-    Over,
 }
 
 // No lines yet.
@@ -65,18 +55,6 @@ fn no_total() -> Total
     }
 }
 
-// A line with nothing in it, which stands where none is open.
-fn no_line() -> Line {
-    Line {
-        frames: 0,
-        blocks: 0,
-        inputs: 0,
-        exactly: of_u64(0),
-        stored: of_u64(0),
-        most: of_u64(0),
-    }
-}
-
 // The sheet before any log.
 pub fn new_sheet() -> Sheet
     ensures { page_of result ≡ empty }
@@ -84,7 +62,6 @@ pub fn new_sheet() -> Sheet
     Sheet {
         closed: no_total(),
         total: no_total(),
-        is_open: false,
-        line: no_line(),
+        line: None,
     }
 }

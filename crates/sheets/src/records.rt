@@ -2,44 +2,33 @@
 ghost use Rattle.std.specs.Prelude.{◌≡◌, ◌+◌, ◌<◌, ◌≤◌, length};
 ghost use Rattle.samples.specs.Samples.{little_from};
 ghost use Rattle.lines.specs.Lines.{figures_of, going_of};
-ghost use Rattle.sheets.specs.Sheet.{page_of, judged_of, row_of, sums_of, current_of, closing, bad, end_row, line_row, with_total, with_line, start, block, block_on, judge, log_end};
+ghost use Rattle.sheets.specs.Sheet.{page_of, judged_of, row_of, sums_of, current_of, closing, bad, line_row, with_total, with_line, start, block, block_on, judge, log_end};
 
 use crate::totals::with_line;
-use crate::{Sheet, Sum, Told, Total, Turn};
-use lines::{End, Line, Lined, add_block, start_line};
+use crate::{Sheet, Told, Total, Turn};
+use lines::{End, Line, add_block, start_line};
 use samples::sample_at;
 
-// What is told of the open line when it ends so, and the word alone where none is open.
-fn end_told(s: Sheet, end: End) -> Told
-    ensures { row_of result ≡ end_row (current_of s) end }
+// What is told of the open line when it ends so, if one is open.
+fn line_told(s: Sheet, end: End) -> Option<Told>
+    ensures { row_of result ≡ line_row (current_of s.line) end }
 {
-    let line = s.line;
-    if s.is_open {
-        return Told::Row(line, end);
-    }
-    Told::Word(end)
-}
-
-// The same where no line is open and nothing is to be told of it.
-fn line_told(s: Sheet, end: End) -> Told
-    ensures { row_of result ≡ line_row (current_of s) end }
-{
-    let line = s.line;
-    if s.is_open {
-        return Told::Row(line, end);
-    }
-    Told::Quiet
+    let line = s.line?;
+    Some(Told {
+        line: Some(line),
+        end,
+    })
 }
 
 // The sheet with no line open.
 fn without_line(s: Sheet) -> Sheet
     ensures { page_of result ≡ closing (page_of s) }
 {
-    let total = s.total;
-    let mut next = s;
-    next.closed = total;
-    next.is_open = false;
-    next
+    Sheet {
+        closed: s.total,
+        line: None,
+        ..s
+    }
 }
 
 // A record that is no call: it ends the open line, and nothing more of that log is read.
@@ -48,37 +37,36 @@ fn ended(s: Sheet, end: End) -> Turn
 {
     Turn {
         sheet: without_line(s),
-        told: end_told(s, end),
+        told: Some(Told { line: s.line, end }),
         reads: false,
     }
 }
 
 // The sheet with an open line, where the total with it is within its range.
-fn with_total(s: Sheet, closed: Total, told: Told, l: Line) -> Turn
+fn with_total(s: Sheet, closed: Total, told: Option<Told>, l: Line) -> Turn
     ensures { judged_of result ≡ with_total (page_of s) (sums_of closed) (row_of told) (figures_of l) }
 {
     match with_line(closed, l) {
-        Sum::Fits(total) => Turn {
+        Some(total) => Turn {
             sheet: Sheet {
                 closed,
                 total,
-                is_open: true,
-                line: l,
+                line: Some(l),
             },
             told,
             reads: true,
         },
-        Sum::Over => ended(s, End::Range),
+        None => ended(s, End::Range),
     }
 }
 
 // The same of a line that may have ended.
-fn with_lined(s: Sheet, closed: Total, told: Told, lined: Lined) -> Turn
+fn with_lined(s: Sheet, closed: Total, told: Option<Told>, lined: Result<Line, End>) -> Turn
     ensures { judged_of result ≡ with_line (page_of s) (sums_of closed) (row_of told) (going_of lined) }
 {
     match lined {
-        Lined::On(l) => with_total(s, closed, told, l),
-        Lined::Ended(end) => ended(s, end),
+        Ok(l) => with_total(s, closed, told, l),
+        Err(end) => ended(s, end),
     }
 }
 
@@ -105,24 +93,21 @@ fn size_at(payload: &[u8], at: usize) -> u32
 fn take_start(s: Sheet, payload: &[u8]) -> Turn
     ensures { judged_of result ≡ start (page_of s) payload.now }
 {
-    let total = s.total;
     if payload.len() != 8 {
         return ended(s, End::Payload);
     }
     with_lined(
         s,
-        total,
+        s.total,
         line_told(s, End::Closed),
         start_line(sample_at(payload, 0)),
     )
 }
 
 // A block is added to the open line.
-fn take_block(s: Sheet, payload: &[u8]) -> Turn
-    ensures { judged_of result ≡ block (page_of s) (figures_of s.line) payload.now }
+fn take_block(s: Sheet, line: Line, payload: &[u8]) -> Turn
+    ensures { judged_of result ≡ block (page_of s) (figures_of line) payload.now }
 {
-    let closed = s.closed;
-    let line = s.line;
     if payload.len() != 32 {
         return ended(s, End::Payload);
     }
@@ -131,17 +116,17 @@ fn take_block(s: Sheet, payload: &[u8]) -> Turn
     let t = sample_at(payload, 8);
     let d = sample_at(payload, 16);
     let index = sample_at(payload, 24);
-    with_lined(s, closed, Told::Quiet, add_block(line, n, c, t, d, index))
+    with_lined(s, s.closed, None, add_block(line, n, c, t, d, index))
 }
 
 // A block where a line is open.
 fn block_on(s: Sheet, payload: &[u8]) -> Turn
-    ensures { judged_of result ≡ block_on (page_of s) (current_of s) payload.now }
+    ensures { judged_of result ≡ block_on (page_of s) (current_of s.line) payload.now }
 {
-    if s.is_open {
-        return take_block(s, payload);
+    match s.line {
+        Some(line) => take_block(s, line, payload),
+        None => ended(s, End::Early),
     }
-    ended(s, End::Early)
 }
 
 // The sheet after a record of a log, by the record's kind and payload. A setting does nothing.
@@ -154,7 +139,7 @@ pub fn take_record(s: Sheet, kind: u8, payload: &[u8]) -> Turn
     if kind == 2 {
         return Turn {
             sheet: s,
-            told: Told::Quiet,
+            told: None,
             reads: true,
         };
     }

@@ -1,56 +1,41 @@
 // The total with a line.
 ghost use Rattle.sheets.specs.Steps.{SummedBy, CountedBy, PlacedBy};
 
-use crate::{Sum, Total};
+use crate::Total;
+use big::Big;
 use lines::Line;
-use positions::{Held, sum};
+use positions::sum;
 
 // The counts of a total with a line's; its positions are those before it.
-fn counted(t: Total, l: Line) -> Sum
+fn counted(t: Total, l: Line) -> Option<Total>
     ensures { CountedBy t l result }
 {
-    let exactly = t.exactly;
-    let stored = t.stored;
-    if u64::MAX - t.frames < l.frames {
-        return Sum::Over;
-    }
-    if u64::MAX - t.blocks < l.blocks {
-        return Sum::Over;
-    }
-    Sum::Fits(Total {
-        frames: t.frames + l.frames,
-        blocks: t.blocks + l.blocks,
-        exactly,
-        stored,
+    let frames = t.frames.checked_add(l.frames)?;
+    let blocks = t.blocks.checked_add(l.blocks)?;
+    Some(Total {
+        frames,
+        blocks,
+        ..t
     })
 }
 
 // The total with other positions.
-fn placed(t: Total, exactly: Held, stored: Held) -> Sum
+fn placed(t: Total, exactly: Option<Big>, stored: Option<Big>) -> Option<Total>
     ensures { PlacedBy t exactly stored result }
 {
-    let Held::Kept(e) = exactly else {
-        return Sum::Over;
-    };
-    let Held::Kept(s) = stored else {
-        return Sum::Over;
-    };
-    let mut next = t;
-    next.exactly = e;
-    next.stored = s;
-    Sum::Fits(next)
+    let exactly = exactly?;
+    let stored = stored?;
+    Some(Total {
+        exactly,
+        stored,
+        ..t
+    })
 }
 
 // The total with a line added, each sum within its range.
-pub fn with_line(t: Total, l: Line) -> Sum
+pub fn with_line(t: Total, l: Line) -> Option<Total>
     ensures { SummedBy t l result }
 {
-    let a = t.exactly;
-    let b = l.exactly;
-    let c = t.stored;
-    let d = l.stored;
-    match counted(t, l) {
-        Sum::Fits(next) => placed(next, sum(a, b), sum(c, d)),
-        Sum::Over => Sum::Over,
-    }
+    let next = counted(t, l)?;
+    placed(next, sum(t.exactly, l.exactly), sum(t.stored, l.stored))
 }

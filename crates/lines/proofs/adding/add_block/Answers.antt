@@ -1,5 +1,6 @@
 -- `lines::adding::add_block` meets its contract. Assumes nothing.
-use mathlib.Core.Path.{refl}
+use mathlib.Core.Path.{refl, ap, ◌∙◌}
+use Rattle.lines.specs.Lines.{going_of}
 use Rattle.lines.proofs.Grows.{block_float, block_grown}
 use Rattle.lines.proofs.adding.add_block.Goals as goal
 
@@ -10,5 +11,6 @@ returns-then-is_other c = let a = c.args in
 
 pub returns : goal.returns
 returns c = let a = c.args in
-    block_grown a.l a.n a.c a.t a.d a.index c.of_double-step.result c.of_double-more.result c.of_double-at.result _ _ _
+    ap going_of c.ok_or.ensures.value
+    ∙ block_grown a.l a.n a.c a.t a.d a.index c.of_double-step.result c.of_double-more.result c.of_double-at.result _ _ _
     c.of_double-step.ensures c.of_double-more.ensures c.of_double-at.ensures c.is_other.ensures c.is_other-2.ensures c.is_other-3.ensures _ c.grown.result c.if-is_other.false refl c.grown.ensures

@@ -8,4 +8,4 @@ use Rattle.sheets.proofs.records.end_log.Goals as goal
 pub returns : goal.returns
 unfolding log_end
 returns c = let a = c.args in
-    turned (page_of c.without_line.result) (closing (page_of a.s)) (row_of c.line_told.result) (line_row (current_of a.s) end.Open) false c.without_line.ensures c.line_told.ensures
+    turned (page_of c.without_line.result) (closing (page_of a.s)) (row_of c.line_told.result) (line_row (current_of a.s.line) end.Open) false c.without_line.ensures c.line_told.ensures

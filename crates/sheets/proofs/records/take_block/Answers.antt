@@ -10,13 +10,13 @@ use Rattle.sheets.proofs.records.take_block.Goals as goal
 
 pub returns-then-payload-ne32 : goal.returns-then-payload-ne32
 returns-then-payload-ne32 c = let a = c.args in
-    block_length (page_of a.s) a.payload.now (judged_of c.ended.result) (figures_of a.s.line) c.if-payload-ne32.true c.ended.ensures
+    block_length (page_of a.s) a.payload.now (judged_of c.ended.result) (figures_of a.line) c.if-payload-ne32.true c.ended.ensures
 
 pub returns : goal.returns
 returns c = let a = c.args in
     let p = page_of a.s in
     let s = sums_of a.s.closed in
-    let f = figures_of a.s.line in
+    let f = figures_of a.line in
     let bs = a.payload.now in
     let t2 = c.sample_at-t.result in
     let d2 = c.sample_at-d.result in

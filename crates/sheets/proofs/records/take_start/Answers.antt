@@ -19,4 +19,4 @@ returns c = let a = c.args in
     start_is p a.payload.now (judged_of c.with_lined.result) c.if-payload-ne8.false
     (c.with_lined.ensures
     ∙ ap (λ (r : Row). with_line p s r (going_of c.start_line.result)) c.line_told.ensures
-    ∙ ap (λ (g : Going). with_line p s (line_row (current_of a.s) end.Closed) g) (c.start_line.ensures ∙ ap (λ (x : Float). started x) c.sample_at.ensures))
+    ∙ ap (λ (g : Going). with_line p s (line_row (current_of a.s.line) end.Closed) g) (c.start_line.ensures ∙ ap (λ (x : Float). started x) c.sample_at.ensures))
