@@ -2,22 +2,20 @@
 use Rattle.std.specs.Prelude.{Bool, cond, ◌&&◌, [], ◌∷◌, ℕ, leb, Float}
 use Rattle.std.specs.Float.Ieee.{le}
 use Rattle.exact.specs.Doubles.{◌*f◌, ◌/f◌, one_f, above_zero}
-use Rattle.error.specs.Refusals.{Said, given, refused, unless, number_of, values_of}
+use Rattle.error.specs.Refusals.{Said, given, refused, unless, said_result}
 use Rattle.state.specs.declared.State.{State}
-use Rattle.asynchro.specs.declared.Done.{Done}
-use Rattle.asynchro.specs.declared.Done.TheVariants as done
 use Rattle.asynchro.specs.declared.Outcome.{Outcome}
 use Rattle.sizes.specs.Bounds.{is_ratio}
 use Rattle.steps.specs.Steps.{step_of}
 use Rattle.state.specs.Record.{checked, changed, update_lengths}
 
 -- What a call on a record leaves: the record, and what it says.
-pub record Result (A : Type 0) : Type 0 where
+pub record Left (A : Type 0) : Type 0 where
   pub state : State
   pub said : Said A
 
 -- the new record, or on a refusal the record given
-abbrev pub end_of : State → Said State → Result Unit
+abbrev pub end_of : State → Said State → Left Unit
 end_of s (given t) = record { state = t; said = given tt }
 end_of s (refused n vs) = record { state = s; said = refused n vs }
 
@@ -39,11 +37,11 @@ applied s accepted ratio ramp =
     (update_lengths (with_ratio s ratio ramp))))
 
 -- "An absolute setting divides by the original ratio to get rel"
-abbrev pub set_ratio : State → Float → Bool → Result Unit
+abbrev pub set_ratio : State → Float → Bool → Left Unit
 set_ratio s r ramp = end_of s (applied s (relative_holds s.m (r /f s.original)) r ramp)
 
 -- "a relative one multiplies to get the new ratio .. and for the relative form the product is finite and above 0"
-abbrev pub set_relative : State → Float → Bool → Result Unit
+abbrev pub set_relative : State → Float → Bool → Left Unit
 set_relative s rel ramp = end_of s (applied s (above_zero (s.original *f rel) && relative_holds s.m rel) (s.original *f rel) ramp)
 
 -- ---- chunk setting: (11,) 10, 3, 6
@@ -54,13 +52,9 @@ with_chunk s n = changed s n s.input s.output s.fill s.index s.current s.target 
 abbrev pub chunked : State → ℕ → Said State
 chunked s n = checked s (unless (leb 1 n && leb n s.chunk0) 3 [] (update_lengths (with_chunk s n)))
 
-abbrev pub set_chunk : State → ℕ → Result Unit
+abbrev pub set_chunk : State → ℕ → Left Unit
 set_chunk s n = end_of s (chunked s n)
 
--- ---- the answers in document 01's words
-abbrev pub said_done : Done → Said Unit
-said_done done.Accepted = given tt
-said_done (done.Refused r) = refused (number_of r) (values_of r)
-
-abbrev pub result_of : Outcome → Result Unit
-result_of o = record { state = o.state; said = said_done o.answer }
+-- ---- the outcome in document 01's words
+abbrev pub result_of : {A : Type 0} → Outcome A → Left A
+result_of o = record { state = o.state; said = said_result o.answer }

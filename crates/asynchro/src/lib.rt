@@ -2,7 +2,7 @@
 #![tactic(auto)]
 
 ghost use Rattle.std.specs.Prelude.{◌≡◌};
-ghost use Rattle.state.specs.Record.{said_made};
+ghost use Rattle.error.specs.Refusals.{said_result};
 ghost use Rattle.asynchro.specs.Calls.{
   result_of,
   end_of,
@@ -15,34 +15,27 @@ ghost use Rattle.asynchro.specs.Calls.{
 };
 
 use error::Refusal;
-use state::{Made, State};
+use state::State;
 
-// What a setting answers.
+// What a call on a record leaves: the new record, or on a refusal the record given, and what it answers.
 #[derive(Clone, Copy)]
-pub enum Done {
-    Accepted,
-    Refused(Refusal),
-}
-
-// What a call on a record leaves: the new record, or on a refusal the record given.
-#[derive(Clone, Copy)]
-pub struct Outcome {
+pub struct Outcome<T> {
     pub state: State,
-    pub answer: Done,
+    pub answer: Result<T, Refusal>,
 }
 
 // What a call on s leaves, where s stands on a refusal.
-fn end_of(s: State, made: Made) -> Outcome
-    ensures { result_of result ≡ end_of s (said_made made) }
+fn end_of(s: State, made: Result<State, Refusal>) -> Outcome<()>
+    ensures { result_of result ≡ end_of s (said_result made) }
 {
     match made {
-        Made::Ready(next) => Outcome {
+        Ok(next) => Outcome {
             state: next,
-            answer: Done::Accepted,
+            answer: Ok(()),
         },
-        Made::Refused(r) => Outcome {
+        Err(r) => Outcome {
             state: s,
-            answer: Done::Refused(r),
+            answer: Err(r),
         },
     }
 }
@@ -55,17 +48,15 @@ fn relative_ratio_in_bounds(m: f64, rel: f64) -> bool
 }
 
 // The new ratio r and its step; `accepted` says that it passes under 4.
-fn apply_ratio(s: State, accepted: bool, r: f64, ramp: bool) -> Made
-    ensures { said_made result ≡ applied s accepted r ramp }
+fn apply_ratio(s: State, accepted: bool, r: f64, ramp: bool) -> Result<State, Refusal>
+    ensures { said_result result ≡ applied s accepted r ramp }
 {
-    if !state::is_state(s) {
-        return Made::Refused(state::fault_of(s));
-    }
+    state::check(s)?;
     if !accepted {
-        return Made::Refused(Refusal::RatioOutOfBounds(r, s.original, s.m));
+        return Err(Refusal::RatioOutOfBounds(r, s.original, s.m));
     }
     if !bounds::is_ratio(r) {
-        return Made::Refused(Refusal::RatioBeyondPort(r));
+        return Err(Refusal::RatioBeyondPort(r));
     }
     let step = steps::step_of(r);
     let mut next = s;
@@ -79,7 +70,7 @@ fn apply_ratio(s: State, accepted: bool, r: f64, ramp: bool) -> Made
 }
 
 // An absolute setting: refusals 11, 10, 4, 5, 6.
-pub fn set_resample_ratio(s: State, r: f64, ramp: bool) -> Outcome
+pub fn set_resample_ratio(s: State, r: f64, ramp: bool) -> Outcome<()>
     ensures { result_of result ≡ set_ratio s r ramp }
 {
     let accepted = relative_ratio_in_bounds(s.m, r / s.original);
@@ -87,7 +78,7 @@ pub fn set_resample_ratio(s: State, r: f64, ramp: bool) -> Outcome
 }
 
 // A relative setting, in the same order.
-pub fn set_resample_ratio_relative(s: State, rel: f64, ramp: bool) -> Outcome
+pub fn set_resample_ratio_relative(s: State, rel: f64, ramp: bool) -> Outcome<()>
     ensures { result_of result ≡ set_relative s rel ramp }
 {
     let r = s.original * rel;
@@ -96,22 +87,18 @@ pub fn set_resample_ratio_relative(s: State, rel: f64, ramp: bool) -> Outcome
 }
 
 // The chunk n, which stays at or below the construction chunk.
-fn apply_chunk(s: State, n: usize) -> Made
-    ensures { said_made result ≡ chunked s n }
+fn apply_chunk(s: State, n: usize) -> Result<State, Refusal>
+    ensures { said_result result ≡ chunked s n }
 {
-    if !state::is_state(s) {
-        return Made::Refused(state::fault_of(s));
-    }
+    state::check(s)?;
     if !((1 <= n) & (n <= s.chunk0)) {
-        return Made::Refused(Refusal::InvalidChunkSize);
+        return Err(Refusal::InvalidChunkSize);
     }
-    let mut resized = s;
-    resized.chunk = n;
-    state::update_lengths(resized)
+    state::update_lengths(State { chunk: n, ..s })
 }
 
 // A chunk setting: refusals 11, 10, 3, 6.
-pub fn set_chunk_size(s: State, n: usize) -> Outcome
+pub fn set_chunk_size(s: State, n: usize) -> Outcome<()>
     ensures { result_of result ≡ set_chunk s n }
 {
     end_of(s, apply_chunk(s, n))

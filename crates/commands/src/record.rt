@@ -1,16 +1,17 @@
 // What is kept, and the commands on the record and the working area.
 use crate::said::{Said, area, count, number_in, ok, refused};
 use crate::shown::with_state;
-use asynchro::{Done, Outcome};
+use asynchro::Outcome;
 use asynchro_fast::PolynomialDegree;
+use error::Refusal;
 use kinds::Kind;
 use printer::samples_of;
-use process::{BlockOutcome, Ran};
+use process::Sizes;
 use script::values::{
     Values, blend_at, count_at, degree_at, flag_at, float_at, kind_in, number_at, side_at,
 };
 use sizes::FixedAsync;
-use state::{Made, State};
+use state::State;
 
 // The most samples of an area.
 const MOST: usize = 131072;
@@ -69,16 +70,15 @@ fn changed(kept: Kept, state: State, said: Said) -> Change {
     left(then, said)
 }
 
-fn said_done(outcome: Outcome) -> Said {
-    let answer = outcome.answer;
-    match answer {
-        Done::Accepted => with_state(ok(), outcome.state),
-        Done::Refused(r) => refused(r),
+fn said_done(outcome: Outcome<()>) -> Said {
+    match outcome.answer {
+        Ok(()) => with_state(ok(), outcome.state),
+        Err(r) => refused(r),
     }
 }
 
 // What a setting or a reset leaves: on a refusal the outcome's record is the one that was given.
-fn change_of(kept: Kept, outcome: Outcome) -> Change {
+fn change_of(kept: Kept, outcome: Outcome<()>) -> Change {
     changed(kept, outcome.state, said_done(outcome))
 }
 
@@ -110,7 +110,7 @@ fn zeroed(s: State, work: &mut [f64]) -> usize {
     n
 }
 
-pub fn made_poly(values: Values) -> Made {
+pub fn made_poly(values: Values) -> Result<State, Refusal> {
     construction::new_poly(
         float_at(values, 0),
         float_at(values, 1),
@@ -121,7 +121,7 @@ pub fn made_poly(values: Values) -> Made {
     )
 }
 
-pub fn made_sinc(values: Values) -> Made {
+pub fn made_sinc(values: Values) -> Result<State, Refusal> {
     construction::new_sinc(
         float_at(values, 0),
         float_at(values, 1),
@@ -142,10 +142,10 @@ fn begun(kept: Kept, state: State, work: &mut [f64]) -> Change {
 }
 
 // What a construction leaves.
-pub fn new(kept: Kept, made: Made, work: &mut [f64]) -> Change {
+pub fn new(kept: Kept, made: Result<State, Refusal>, work: &mut [f64]) -> Change {
     match made {
-        Made::Refused(r) => left(kept, refused(r)),
-        Made::Ready(state) => begun(kept, state, work),
+        Err(r) => left(kept, refused(r)),
+        Ok(state) => begun(kept, state, work),
     }
 }
 
@@ -231,18 +231,17 @@ pub fn reset(kept: Kept, work: &mut [f64]) -> Change {
 }
 
 // The sizes used, the output area whole, and the record.
-fn said_ran(outcome: BlockOutcome, output: usize) -> Said {
-    let answer = outcome.answer;
-    match answer {
-        Ran::Used(sizes) => {
+fn said_ran(outcome: Outcome<Sizes>, output: usize) -> Said {
+    match outcome.answer {
+        Ok(sizes) => {
             let used = count(count(ok(), sizes.input), sizes.output);
             with_state(area(used, output), outcome.state)
         }
-        Ran::Refused(r) => refused(r),
+        Err(r) => refused(r),
     }
 }
 
-fn block_of(kept: Kept, outcome: BlockOutcome, output: usize) -> Change {
+fn block_of(kept: Kept, outcome: Outcome<Sizes>, output: usize) -> Change {
     changed(kept, outcome.state, said_ran(outcome, output))
 }
 

@@ -1,7 +1,6 @@
 // What a line is answered with: `ok` with what was asked for, `ref` with a refusal's number and floats,
 // or `bad`.
 use error::Refusal;
-use questions::Count;
 
 // The first word of an answer.
 #[derive(Clone, Copy)]
@@ -111,9 +110,6 @@ pub fn value_in(answer: Result<f64, Refusal>) -> f64 {
     }
 }
 
-pub fn number_in(count: Count) -> usize {
-    match count {
-        Count::Number(n) => n,
-        Count::Refused(_) => 0,
-    }
+pub fn number_in(answer: Result<usize, Refusal>) -> usize {
+    answer.unwrap_or(0)
 }

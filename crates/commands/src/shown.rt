@@ -1,6 +1,5 @@
 // What is said of a record.
 use crate::said::{Said, count, float, number_in, ok, refused, value_in};
-use questions::Count;
 use state::State;
 
 // max-in max-out
@@ -37,13 +36,13 @@ pub fn with_state(said: Said, s: State) -> Said {
 // needed-in needed-out max-in max-out current delay
 pub fn questions(s: State) -> Said {
     match questions::input_frames_next(s) {
-        Count::Number(n) => {
+        Ok(n) => {
             let s1 = count(ok(), n);
             let s2 = count(s1, number_in(questions::output_frames_next(s)));
             let s3 = float(maxima(s2, s), value_in(questions::resample_ratio(s)));
             count(s3, number_in(questions::output_delay(s)))
         }
-        Count::Refused(r) => refused(r),
+        Err(r) => refused(r),
     }
 }
 

@@ -1,4 +1,5 @@
 -- What an accepted construction leaves passes the StateRecord test. Assumes nothing.
+use Rattle.std.specs.Prelude.{is_some}
 use mathlib.Core.Bool.{true}
 use mathlib.Core.Path.{◌≡◌, refl, subst}
 use Prim.Native.Nat.{ℕ, ◌≤◌}
@@ -17,7 +18,7 @@ use Rattle.sizes.specs.declared.FixedAsync.{FixedAsync}
 use Rattle.sizes.specs.declared.FixedAsync.TheVariants.{Input, Output}
 use Rattle.state.specs.declared.State.{State}
 use Rattle.sizes.specs.Bounds.{is_ratio, is_channels, is_size}
-use Rattle.sizes.specs.Sizes.{max_input, max_output, is_frames}
+use Rattle.sizes.specs.Sizes.{max_input, max_output}
 use Rattle.state.specs.Record.{max_input_of, max_output_of, maxima_hold, is_state, update_lengths}
 use Rattle.construction.specs.Construction.{fresh_state, with_fill, filled, first_lengths, construct}
 use Rattle.steps.proofs.Steps.{fresh_step}
@@ -27,7 +28,7 @@ use Rattle.state.proofs.Keeps.{update_keeps, counts_join}
 use Rattle.state.proofs.Valid.{Ready, tests, passes}
 
 -- one of the maxima is the chunk itself
-chunk_few : (f : FixedAsync) (l c : ℕ) (r m : Float) → is_frames (max_input f l c r m) ≡ true → is_frames (max_output f c r m) ≡ true → c ≤ 65536
+chunk_few : (f : FixedAsync) (l c : ℕ) (r m : Float) → is_some (max_input f l c r m) ≡ true → is_some (max_output f c r m) ≡ true → c ≤ 65536
 unfolding max_input max_output
 chunk_few Input l c r m h k = counted (is_size c) c refl h
 chunk_few Output l c r m h k = counted (is_size c) c refl k
@@ -36,7 +37,7 @@ fresh_ready : (r m : Float) (k : Kind) (c ch : ℕ) (f : FixedAsync) → kind_ho
     → maxima_hold (fresh_state r m k c ch f) ≡ true → Ready (fresh_state r m k c ch f)
 fresh_ready r m k c ch f hk hm hc hr hch x =
     let s = fresh_state r m k c ch f in
-    let y = both (is_frames (max_input_of s)) (is_frames (max_output_of s)) x in
+    let y = both (is_some (max_input_of s)) (is_some (max_output_of s)) x in
     record {
       kind = hk;
       counts = counts_join s hch (leb-true 1 c hc) (le_refl c) (chunk_few f (points_of k) c r m y.0 y.1);

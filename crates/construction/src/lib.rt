@@ -3,7 +3,7 @@
 
 ghost use Rattle.std.specs.Prelude.{◌≡◌, true};
 ghost use Rattle.kinds.specs.Kinds.{kind_holds};
-ghost use Rattle.state.specs.Record.{said_made};
+ghost use Rattle.error.specs.Refusals.{said_result};
 ghost use Rattle.construction.specs.Construction.{fresh_state, first_lengths, construct};
 
 use asynchro_fast::PolynomialDegree;
@@ -11,7 +11,7 @@ use asynchro_sinc::SincInterpolationType;
 use error::Refusal;
 use kinds::Kind;
 use sizes::FixedAsync;
-use state::{Made, State};
+use state::State;
 
 // The record before its sizes are worked out.
 fn fresh_state(
@@ -45,22 +45,19 @@ fn fresh_state(
 }
 
 // Construction's last rungs: 6, and the fill.
-fn first_lengths(s: State) -> Made
+fn first_lengths(s: State) -> Result<State, Refusal>
     requires { kind_holds s.kind ≡ true }
-    ensures { said_made result ≡ first_lengths s }
+    ensures { said_result result ≡ first_lengths s }
 {
     let most = state::max_input_of(s);
     if !state::maxima_hold(s, most) {
-        return Made::Refused(Refusal::SizeTooLarge);
+        return Err(Refusal::SizeTooLarge);
     }
-    match state::update_lengths_of(s, most) {
-        Made::Ready(t) => {
-            let mut next = t;
-            next.fill = t.input;
-            Made::Ready(next)
-        }
-        Made::Refused(e) => Made::Refused(e),
-    }
+    let sized = state::update_lengths_of(s, most)?;
+    Ok(State {
+        fill: sized.input,
+        ..sized
+    })
 }
 
 // Construction of a record of either kind: refusals 11, 1, 2, 3, 5, 7, 6. It is lent no area.
@@ -71,26 +68,26 @@ pub fn new_kind(
     chunk: usize,
     channels: usize,
     fixed: FixedAsync,
-) -> Made
-    ensures { said_made result ≡ construct r m kind chunk channels fixed }
+) -> Result<State, Refusal>
+    ensures { said_result result ≡ construct r m kind chunk channels fixed }
 {
     if !kinds::kind_holds(kind) {
-        return Made::Refused(Refusal::Argument);
+        return Err(Refusal::Argument);
     }
     if !bounds::above_zero(r) {
-        return Made::Refused(Refusal::InvalidRatio(r));
+        return Err(Refusal::InvalidRatio(r));
     }
     if !bounds::at_least_one(m) {
-        return Made::Refused(Refusal::InvalidRelativeRatio(m));
+        return Err(Refusal::InvalidRelativeRatio(m));
     }
     if chunk < 1 {
-        return Made::Refused(Refusal::InvalidChunkSize);
+        return Err(Refusal::InvalidChunkSize);
     }
     if !bounds::is_ratio(r) {
-        return Made::Refused(Refusal::RatioBeyondPort(r));
+        return Err(Refusal::RatioBeyondPort(r));
     }
     if !bounds::is_channels(channels) {
-        return Made::Refused(Refusal::Channels);
+        return Err(Refusal::Channels);
     }
     first_lengths(fresh_state(r, m, kind, chunk, channels, fixed))
 }
@@ -103,8 +100,8 @@ pub fn new_poly(
     chunk: usize,
     channels: usize,
     fixed: FixedAsync,
-) -> Made
-    ensures { said_made result ≡ construct r m (Kind.Polynomial degree) chunk channels fixed }
+) -> Result<State, Refusal>
+    ensures { said_result result ≡ construct r m (Kind.Polynomial degree) chunk channels fixed }
 {
     new_kind(r, m, Kind::Polynomial(degree), chunk, channels, fixed)
 }
@@ -119,8 +116,8 @@ pub fn new_sinc(
     chunk: usize,
     channels: usize,
     fixed: FixedAsync,
-) -> Made
-    ensures { said_made result ≡ construct r m (Kind.Sinc points factor blend) chunk channels fixed }
+) -> Result<State, Refusal>
+    ensures { said_result result ≡ construct r m (Kind.Sinc points factor blend) chunk channels fixed }
 {
     let kind = Kind::Sinc(points, factor, blend);
     new_kind(r, m, kind, chunk, channels, fixed)

@@ -7,11 +7,11 @@
 
 mod numbers;
 
+use error::Refusal;
 use printer::samples_of;
-use process::Ran;
 use script::values::{Values, count_at, kind_in, number_at};
 use sizes::FixedAsync;
-use state::{Made, State};
+use state::State;
 use system::{ERROR, OUTPUT, System};
 use table_sum::TableSum;
 
@@ -47,14 +47,9 @@ fn block(t: Turn, table: &[f64], input: &[f64], output: &mut [f64], work: &mut [
     let s = t.state;
     let mask = all_of(s.channels);
     let o = process::process_into_buffer(s, s.input, mask, table, input, output, work);
-    let state = o.state;
-    let answer = o.answer;
-    match answer {
-        Ran::Used(_) => Turn {
-            state,
-            good: t.good,
-        },
-        Ran::Refused(_) => Turn { state, good: false },
+    Turn {
+        state: o.state,
+        good: t.good & o.answer.is_ok(),
     }
 }
 
@@ -147,7 +142,7 @@ fn run_on(
     );
 }
 
-fn made(values: Values) -> Made {
+fn made(values: Values) -> Result<State, Refusal> {
     let kind = kind_in(values);
     construction::new_kind(
         0.9,
@@ -183,8 +178,8 @@ fn measure(
     work: &mut [f64],
 ) {
     match made(values) {
-        Made::Ready(s) => started(sys, s, number_at(values, 6), table, input, output, work),
-        Made::Refused(_) => {
+        Ok(s) => started(sys, s, number_at(values, 6), table, input, output, work),
+        Err(_) => {
             sys.write_all(ERROR, b"cost: the record was refused\n");
         }
     }

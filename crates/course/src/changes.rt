@@ -1,6 +1,6 @@
 // Changes before a block: those of the words, then those of the plan.
 use crate::pass::{Pass, Plan, Run, not_recorded, refused, run_of, stop_told};
-use asynchro::{Done, Outcome};
+use asynchro::Outcome;
 use options::Files;
 use schedule::{Cursor, Entry, Next};
 use system::System;
@@ -61,13 +61,12 @@ fn settled(
     files: Files,
     kind: u64,
     ratio: u64,
-    outcome: Outcome,
+    outcome: Outcome<()>,
 ) -> Run {
     let state = outcome.state;
-    let answer = outcome.answer;
-    match answer {
-        Done::Accepted => run_of(state, recorded(sys, p, files, kind, ratio)),
-        Done::Refused(r) => {
+    match outcome.answer {
+        Ok(()) => run_of(state, recorded(sys, p, files, kind, ratio)),
+        Err(r) => {
             let form = b"the ratio change before block # was refused with number #\n";
             run_of(state, refused(sys, p, files, form, r))
         }

@@ -1,7 +1,6 @@
 // What is kept along a pass: the record, and the line of its calls.
-use asynchro::{Done, Outcome};
+use asynchro::Outcome;
 use lines::{End, Line, add_block, start_line};
-use process::Ran;
 use state::State;
 
 // `good` says that no call was refused.
@@ -58,24 +57,19 @@ fn added(a: Account, next: State, used: usize, n: usize) -> Account {
 pub fn block(a: Account, input: &[f64], output: &mut [f64], work: &mut [f64]) -> Account {
     let s = a.state;
     let o = process::process_into_buffer(s, input.len(), 1, &input[..0], input, output, work);
-    let next = o.state;
-    let answer = o.answer;
-    match answer {
-        Ran::Used(z) => added(a, next, z.input, z.output),
-        Ran::Refused(_) => failed(a),
+    match o.answer {
+        Ok(z) => added(a, o.state, z.input, z.output),
+        Err(_) => failed(a),
     }
 }
 
 // The account after a setting.
-pub fn set(a: Account, o: Outcome) -> Account {
-    let state = o.state;
-    let answer = o.answer;
-    match answer {
-        Done::Accepted => {
-            let mut next = a;
-            next.state = state;
-            next
-        }
-        Done::Refused(_) => failed(a),
+pub fn set(a: Account, o: Outcome<()>) -> Account {
+    match o.answer {
+        Ok(()) => Account {
+            state: o.state,
+            ..a
+        },
+        Err(_) => failed(a),
     }
 }

@@ -1,8 +1,9 @@
 // The passes: each a record, its settings, and its blocks.
 use crate::account::Account;
 use asynchro_fast::PolynomialDegree;
+use error::Refusal;
 use sizes::FixedAsync;
-use state::{Made, State};
+use state::State;
 use system::System;
 
 // A ramp to the one ratio of the first pass.
@@ -94,7 +95,7 @@ fn started(
 }
 
 // The worst input that a search has found: one block with a ramp.
-fn first() -> Made {
+fn first() -> Result<State, Refusal> {
     let r = text::of_bits(0x3f70_1010_1010_0fd0);
     let m = text::of_bits(0x3fff_c03f_f584_0cbc);
     let degree = PolynomialDegree::Nearest;
@@ -102,24 +103,24 @@ fn first() -> Made {
 }
 
 // An ordinary conversion, 48,000 to 44,100 a second.
-fn second() -> Made {
+fn second() -> Result<State, Refusal> {
     let degree = PolynomialDegree::Linear;
     construction::new_poly(44100.0 / 48000.0, 1.1, degree, 1024, 1, FixedAsync::Output)
 }
 
 // Ramps up and down.
-fn third() -> Made {
+fn third() -> Result<State, Refusal> {
     let degree = PolynomialDegree::Cubic;
     construction::new_poly(48000.0 / 44100.0, 2.0, degree, 1024, 1, FixedAsync::Input)
 }
 
 // Clock steering.
-fn fourth() -> Made {
+fn fourth() -> Result<State, Refusal> {
     let degree = PolynomialDegree::Septic;
     construction::new_poly(160.0 / 147.0, 1.05, degree, 441, 1, FixedAsync::Output)
 }
 
-fn made(number: u64) -> Made {
+fn made(number: u64) -> Result<State, Refusal> {
     match number {
         1 => first(),
         2 => second(),
@@ -137,9 +138,8 @@ fn blocks_of(number: u64) -> u64 {
 }
 
 fn pass(sys: &mut System, number: u64, input: &[f64], output: &mut [f64], work: &mut [f64]) {
-    match made(number) {
-        Made::Ready(s) => started(sys, number, s, blocks_of(number), input, output, work),
-        Made::Refused(_) => {}
+    if let Ok(s) = made(number) {
+        started(sys, number, s, blocks_of(number), input, output, work);
     }
 }
 

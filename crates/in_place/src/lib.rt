@@ -7,12 +7,12 @@ ghost use Rattle.std.specs.Prelude.{◌≡◌};
 ghost use Rattle.asynchro.specs.Calls.{result_of, set_ratio, set_relative, set_chunk};
 ghost use Rattle.process.specs.Block.{block_of, block_left, reset_of, reset_left};
 
-use asynchro::Done;
-use process::Ran;
+use error::Refusal;
+use process::Sizes;
 use state::State;
 
 // An absolute ratio setting.
-pub fn set_resample_ratio(s: &mut State, r: f64, ramp: bool) -> Done
+pub fn set_resample_ratio(s: &mut State, r: f64, ramp: bool) -> Result<(), Refusal>
     ensures { result_of (record { state = s.new; answer = result }) ≡ set_ratio s.old r ramp }
 {
     let set = asynchro::set_resample_ratio(*s, r, ramp);
@@ -21,7 +21,7 @@ pub fn set_resample_ratio(s: &mut State, r: f64, ramp: bool) -> Done
 }
 
 // A relative ratio setting.
-pub fn set_resample_ratio_relative(s: &mut State, rel: f64, ramp: bool) -> Done
+pub fn set_resample_ratio_relative(s: &mut State, rel: f64, ramp: bool) -> Result<(), Refusal>
     ensures { result_of (record { state = s.new; answer = result }) ≡ set_relative s.old rel ramp }
 {
     let scaled = asynchro::set_resample_ratio_relative(*s, rel, ramp);
@@ -30,7 +30,7 @@ pub fn set_resample_ratio_relative(s: &mut State, rel: f64, ramp: bool) -> Done
 }
 
 // A chunk setting.
-pub fn set_chunk_size(s: &mut State, n: usize) -> Done
+pub fn set_chunk_size(s: &mut State, n: usize) -> Result<(), Refusal>
     ensures { result_of (record { state = s.new; answer = result }) ≡ set_chunk s.old n }
 {
     let chunked = asynchro::set_chunk_size(*s, n);
@@ -47,7 +47,7 @@ pub fn process_into_buffer(
     input: &[f64],
     output: &mut [f64],
     work: &mut [f64],
-) -> Ran
+) -> Result<Sizes, Refusal>
     ensures { block_left (record { state = s.new; answer = result }) output.new work.new ≡ block_of s.old frames mask table.now input.now output.old work.old }
 {
     let ran = process::process_into_buffer(*s, frames, mask, table, input, output, work);
@@ -56,7 +56,7 @@ pub fn process_into_buffer(
 }
 
 // Reset.
-pub fn reset(s: &mut State, work: &mut [f64]) -> Done
+pub fn reset(s: &mut State, work: &mut [f64]) -> Result<(), Refusal>
     ensures { reset_left (record { state = s.new; answer = result }) work.new ≡ reset_of s.old work.old }
 {
     let cleared = process::reset(*s, work);

@@ -13,7 +13,8 @@ use Rattle.exact.specs.Doubles.{zero_f}
 use Rattle.printer.specs.Within.{Within}
 use Rattle.state.specs.declared.State.{State}
 use Rattle.process.specs.declared.Sizes.{Sizes}
-use Rattle.process.specs.declared.BlockOutcome.{BlockOutcome}
+use Rattle.asynchro.specs.declared.Outcome.{Outcome}
+use Rattle.process.specs.declared.Sizes.{Sizes}
 use Rattle.process.specs.Block.{Block, block_of, block_left}
 use Rattle.lent.specs.Lent.{area_length, work_length, behind, lent_of}
 
@@ -34,7 +35,7 @@ module _ {A : Type 0} (n r : ℕ) (xs : List A) (w : Within n xs r) where
       go false e = let k = leb-false n (length xs) e in let q : r ≡ length xs = omega arith in rw q (drop-length xs ∙ sym (drop_of_length-le xs {i = n} (omega arith)))
 
 -- a, b and n are what the code lends, o what the block answers, p and q what it leaves of the lent parts
-pub run_lent : (s : State) (frames mask : ℕ) (table input output work : List Float) (a b n la lb ln : ℕ) (o : BlockOutcome) (p q : List Float)
+pub run_lent : (s : State) (frames mask : ℕ) (table input output work : List Float) (a b n la lb ln : ℕ) (o : Outcome Sizes) (p q : List Float)
     → la ≡ area_length s.channels s.input → Within la input a → lb ≡ area_length s.channels s.output → Within lb output b → ln ≡ work_length s → Within ln work n
     → block_left o p q ≡ block_of s frames mask table (take a input) (replicate (length (take b output)) zero_f) (take n work)
     → block_left o (p ++ drop b output) (q ++ drop n work) ≡ lent_of s frames mask table input output work

@@ -7,8 +7,9 @@ ghost use Rattle.exact.specs.Doubles.{zero_f};
 ghost use Rattle.process.specs.Block.{block_of, block_left};
 ghost use Rattle.lent.specs.Lent.{area_length, work_length, lent_of};
 
+use asynchro::Outcome;
 use printer::samples_of;
-use process::BlockOutcome;
+use process::Sizes;
 use samples::samples_in;
 use state::State;
 
@@ -46,7 +47,7 @@ fn run_on_zeros(
     input: &[f64],
     output: &mut [f64],
     work: &mut [f64],
-) -> BlockOutcome
+) -> Outcome<Sizes>
     ensures { block_left result output.new work.new ≡ block_of s frames mask table.now input.now (replicate (length output.old) zero_f) work.old }
 {
     area::zero_all(output);
@@ -62,7 +63,7 @@ pub fn run_block(
     input: &[f64],
     output: &mut [f64],
     work: &mut [f64],
-) -> BlockOutcome
+) -> Outcome<Sizes>
     ensures { block_left result output.new work.new ≡ lent_of s frames mask table.now input.now output.old work.old }
 {
     let a = samples_of(input, area_length(s.channels, s.input));

@@ -3,7 +3,8 @@
 #![tactic(auto)]
 
 ghost use Rattle.std.specs.Prelude.{◌≡◌, true};
-ghost use Rattle.state.specs.Record.{is_state, said_made};
+ghost use Rattle.error.specs.Refusals.{said_result};
+ghost use Rattle.state.specs.Record.{is_state};
 ghost use Rattle.plan.specs.Plan.{
   increment_of,
   reach_holds,
@@ -15,7 +16,7 @@ ghost use Rattle.plan.specs.Plan.{
 };
 
 use error::Refusal;
-use state::{Made, State};
+use state::State;
 
 // The ramp's increment, of a record that has passed the StateRecord test; 0 where there is no frame to
 // use it.
@@ -63,19 +64,17 @@ pub fn plan(
     input: usize,
     output: usize,
     work: usize,
-) -> Made
-    ensures { said_made result ≡ planned s frames mask table input output work }
+) -> Result<State, Refusal>
+    ensures { said_result result ≡ planned s frames mask table input output work }
 {
     let most = state::max_input_of(s);
-    if !state::is_state_of(s, most) {
-        return Made::Refused(state::fault_of(s));
-    }
+    state::check_of(s, most)?;
     if !shape::validate_buffers(s, most, frames, mask, table, input, output, work) {
-        return Made::Refused(Refusal::BufferShape);
+        return Err(Refusal::BufferShape);
     }
     let seen = look(s);
     if !seen.reach {
-        return Made::Refused(Refusal::Reach);
+        return Err(Refusal::Reach);
     }
     state::update_lengths_of(after_block(s, seen.index), most)
 }
@@ -96,15 +95,13 @@ fn restored_state(s: State) -> State
 }
 
 // Reset's first pass: refusals 11, 10, 8, 6, or the record that it leaves.
-pub fn plan_reset(s: State, work: usize) -> Made
-    ensures { said_made result ≡ resetting s work }
+pub fn plan_reset(s: State, work: usize) -> Result<State, Refusal>
+    ensures { said_result result ≡ resetting s work }
 {
     let most = state::max_input_of(s);
-    if !state::is_state_of(s, most) {
-        return Made::Refused(state::fault_of(s));
-    }
+    state::check_of(s, most)?;
     if !shape::work_holds(s, most, work) {
-        return Made::Refused(Refusal::BufferShape);
+        return Err(Refusal::BufferShape);
     }
     state::update_lengths_of(restored_state(s), most)
 }

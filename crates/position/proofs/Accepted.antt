@@ -1,4 +1,5 @@
 -- What an accepted block is known to have passed, and the law of its index. Assumes nothing.
+use Rattle.std.specs.Prelude.{Some, is_some}
 use mathlib.Core.Bool.{Bool, true, cond}
 use mathlib.Core.Path.{◌≡◌, sym, ap, subst}
 use Prim.Native.Nat.{ℕ, zero, suc, ◌+◌, ◌*◌, ◌^◌, ◌≤◌, ◌<◌}
@@ -10,12 +11,11 @@ use Rattle.exact.specs.Doubles.{◌-f◌, ◌/f◌, count, zero_f}
 use Rattle.exact.specs.Whole.{◌⊕◌, AtMost, Below}
 use Rattle.exact.specs.Exact.{exact, Number}
 use Rattle.error.specs.Refusals.{given}
-use Rattle.sizes.specs.declared.Size.TheVariants.{Frames}
 use Rattle.sizes.specs.declared.FixedAsync.{FixedAsync}
 use Rattle.sizes.specs.declared.FixedAsync.TheVariants.{Input, Output}
 use Rattle.state.specs.declared.State.{State}
 use Rattle.sizes.specs.Bounds.{is_size}
-use Rattle.sizes.specs.Sizes.{needed_input, needed_output, frames_of, is_frames, size_at_least}
+use Rattle.sizes.specs.Sizes.{needed_input, needed_output, frames_of, size_at_least}
 use Rattle.state.specs.Record.{points_in, step_now_of, step_then_of, input_of, output_of, max_input_of, is_state, with_sizes, update_lengths}
 use Rattle.kinds.proofs.Laws.{points_few}
 use Rattle.state.proofs.Checked.{check_accepted}
@@ -36,8 +36,8 @@ use Rattle.position.proofs.Blocks.{Moved, block_none, block_some}
 pub sizes_given : (s t : State) → update_lengths s ≡ given t → t ≡ with_sizes s (frames_of (input_of s)) (frames_of (output_of s))
 unfolding update_lengths
 sizes_given s t e =
-    let a = accepted (is_frames (input_of s)) _ _ _ t e in
-    let b = accepted (is_frames (output_of s)) _ _ _ t a.1 in
+    let a = accepted (is_some (input_of s)) _ _ _ t e in
+    let b = accepted (is_some (output_of s)) _ _ _ t a.1 in
     let c = accepted (size_at_least (max_input_of s) (frames_of (input_of s))) _ _ _ t b.1 in
     sym (same_given (with_sizes s (frames_of (input_of s)) (frames_of (output_of s))) t c.1)
 
@@ -57,7 +57,7 @@ passed s t frames mask table a b w e =
 
 -- ---- a block of no frames has its input fixed, and that is its chunk
 none_of : (f : FixedAsync) (l c n : ℕ) (i t u : Float) → l ≤ 256 → 1 ≤ c → c ≤ 65536 → Number binary64 i → Below (2 ^ 1091) (exact binary64 i) → Step t → Step u
-    → needed_input f l c i t u ≡ Frames n → needed_output f l c i t u ≡ Frames 0 → (1 ≤ n) × AtMost (n * 2 ^ 1074, 0) (exact binary64 i ⊕ (1300 * 2 ^ 1074, 0))
+    → needed_input f l c i t u ≡ Some n → needed_output f l c i t u ≡ Some 0 → (1 ≤ n) × AtMost (n * 2 ^ 1074, 0) (exact binary64 i ⊕ (1300 * 2 ^ 1074, 0))
 unfolding needed_input needed_output
 none_of Input l c n i t u hl h hc p q a b e z =
     let k = count_is (is_size c) c n e in
@@ -91,7 +91,7 @@ module _ (s : State) (q : Double s.index) (h : is_state s ≡ true) where
   abbrev ReachBy : ℕ → Float → Type 0
   ReachBy n d = all_reach s.kind s.input (step_now_of s) d s.index n ≡ true
 
-  moved_none : (d : Float) → output_of s ≡ Frames 0 → MovedBy 0 d
+  moved_none : (d : Float) → output_of s ≡ Some 0 → MovedBy 0 d
   unfolding path_at
   moved_none d e =
       let v = valid s h in
@@ -104,7 +104,7 @@ module _ (s : State) (q : Double s.index) (h : is_state s ≡ true) where
   moved_some n p l r =
       block_some s.kind (valid s h).kind_holds_lem n s.input (step_now_of s) (step_then_of s) s.index now then index.0 index.1 p l (valid s h).input_few r
 
-  moved_by : (n : ℕ) → output_of s ≡ Frames n → n ≤ 65536 → ReachBy n (inc_at n) → MovedBy n (inc_at n)
+  moved_by : (n : ℕ) → output_of s ≡ Some n → n ≤ 65536 → ReachBy n (inc_at n) → MovedBy n (inc_at n)
   moved_by zero e l r = moved_none (inc_at 0) e
   moved_by (suc n) e l r =
       let k : inc_at (suc n) ≡ (step_then_of s -f step_now_of s) /f count (suc n) = ap (λ (b : Bool). cond b zero_f ((step_then_of s -f step_now_of s) /f count (suc n))) (eqb-suc-zero n) in

@@ -1,4 +1,5 @@
 -- A fixed input that needs no output frames is not far ahead of the index: the quotient of the output size is below 2 there. In units of 2 ^ -1074. Assumes nothing.
+use Rattle.std.specs.Prelude.{Some}
 use mathlib.Core.Bool.{Bool, true, false}
 use mathlib.Core.Path.{◌≡◌, refl, subst}
 use Prim.Native.Nat.{ℕ, ◌+◌, ◌*◌, ◌/◌, ◌^◌, ◌≤◌, ◌<◌}
@@ -16,18 +17,17 @@ use Rattle.exact.proofs.Products.{div_near}
 use Rattle.whole.specs.Rounded.{floor_of}
 use Rattle.whole.proofs.Units.{shared}
 use Rattle.whole.proofs.Values.{part_bounds, floor_greatest}
-use Rattle.sizes.specs.declared.Size.TheVariants.{Frames}
 use Rattle.sizes.specs.Bounds.{is_size}
 use Rattle.sizes.specs.Sizes.{sized, size_of, avg_of, over_of, output_float}
 use Rattle.position.proofs.Amounts.{count_exact, mag_between, mag_below, looser, half_near, sub_of}
 use Rattle.position.proofs.Steps.{Pace, Step, difference}
 
 -- ---- a size of no frames: its floor is below 1, so the number is below 2
-pub count_is : (b : Bool) (n k : ℕ) → sized b n ≡ Frames k → n ≡ k
+pub count_is : (b : Bool) (n k : ℕ) → sized b n ≡ Some k → n ≡ k
 count_is true n k e = cc
 count_is false n k e = absurd (let z : ◌≡◌ {A = ℕ} 0 1 = cc in omega arith)
 
-whole_none : (y : Float) → Number binary64 y → size_of y ≡ Frames 0 → Less (exact binary64 y) (2 ^ 1074, 0)
+whole_none : (y : Float) → Number binary64 y → size_of y ≡ Some 0 → Less (exact binary64 y) (2 ^ 1074, 0)
 unfolding size_of exact
 whole_none nan n e = absurd n.0
 whole_none (inf s) n e = absurd n.0
@@ -42,7 +42,7 @@ whole_none (fin false m d) n e =
     plain : (U k m : ℕ) → k ≡ 0 → m < k * U + U → Less (m, 0) (U, 0)
     plain U k m z h = let g = subst (λ (x : ℕ). m < x * U + U) z h in omega arith
 
-floor_none : (q : Float) → Number binary64 q → size_of (floor_of q) ≡ Frames 0 → Less (exact binary64 q) (2 * 2 ^ 1074, 0)
+floor_none : (q : Float) → Number binary64 q → size_of (floor_of q) ≡ Some 0 → Less (exact binary64 q) (2 * 2 ^ 1074, 0)
 floor_none q n e =
     let g = floor_greatest q n in
     next (2 ^ 1074) (exact binary64 q) (exact binary64 (floor_of q)) g.1.near (whole_none (floor_of q) g.0 e)
@@ -149,7 +149,7 @@ module _ (l c : ℕ) (i t u : Float) (hl : l ≤ 256) (hc : c ≤ 65536) (n : Nu
       let z = average (2 ^ 1028) v w S (exact binary64 (avg_of t u)) a.pace b.pace s.1 h.1 in
       (h.0, z.0, z.1)
 
-  pub none_ahead : size_of (output_float l c i t u) ≡ Frames 0 → AtMost (c * 2 ^ 1074, 0) (exact binary64 i ⊕ (1300 * 2 ^ 1074, 0))
+  pub none_ahead : size_of (output_float l c i t u) ≡ Some 0 → AtMost (c * 2 ^ 1074, 0) (exact binary64 i ⊕ (1300 * 2 ^ 1074, 0))
   none_ahead e =
       let m = count c -f count (l + 1) -f i -f over_of t u in
       let d = avg_of t u in

@@ -8,15 +8,13 @@ use lib.ListN.{length, replicate}
 use Rattle.exact.specs.Doubles.{zero_f}
 use Rattle.error.specs.declared.Refusal.{Refusal}
 use Rattle.state.specs.declared.State.{State}
-use Rattle.state.specs.declared.Made.{Made}
-use Rattle.state.specs.declared.Made.TheVariants as made
-use Rattle.asynchro.specs.declared.Done.TheVariants as done
-use Rattle.state.specs.Record.{points_in, step_now_of, is_state, said_made}
+use Rattle.std.specs.Prelude.{Result, Ok, Err}
+use Rattle.error.specs.Refusals.{said_result}
+use Rattle.state.specs.Record.{points_in, step_now_of, is_state}
 use Rattle.state.proofs.Checked.{check_accepted}
 use Rattle.error.proofs.Ladder.{accepted}
 use Rattle.area.specs.Moves.{moved_all, loaded_all}
 use Rattle.frames.specs.Run.{ran_all}
-use Rattle.process.specs.declared.Ran.TheVariants as ran
 use Rattle.shape.specs.Shape.{read_of, stride_of, shape_holds}
 use Rattle.plan.specs.Plan.{increment_of, planned, resetting}
 use Rattle.process.specs.Block.{work_after, output_after, sizes_of, block_end, block_of, block_left, reset_end, reset_of, reset_left}
@@ -40,27 +38,27 @@ module _ (s : State) (frames mask : ℕ) (table input : List Float) (at : ℕ) (
       (w, rw (k, a, g, h, w))
 
 -- ---- the block's two ways out
-module _ (s : State) (frames mask : ℕ) (table input output work : List Float) (m : Made) (e : said_made m ≡ planned s frames mask (length table) (length input) (length output) (length work)) where
-  pub block_refused : (r : Refusal) → m ≡ made.Refused r → block_left (record { state = s; answer = ran.Refused r }) output work ≡ block_of s frames mask table input output work
-  block_refused r h = ap (block_end s frames mask table input output work) (ap said_made (sym h) ∙ e)
+module _ (s : State) (frames mask : ℕ) (table input output work : List Float) (m : Result State Refusal) (e : said_result m ≡ planned s frames mask (length table) (length input) (length output) (length work)) where
+  pub block_refused : (r : Refusal) → m ≡ Err r → block_left (record { state = s; answer = Err r }) output work ≡ block_of s frames mask table input output work
+  block_refused r h = ap (block_end s frames mask table input output work) (ap said_result (sym h) ∙ e)
 
-  pub block_ran : (t : State) (out left : List Float) → m ≡ made.Ready t → left ≡ work_after s frames mask input 0 work → out ≡ output_after s mask table (work_after s frames mask input 0 work) 0 output
-      → block_left (record { state = t; answer = ran.Used (sizes_of s) }) out left ≡ block_of s frames mask table input output work
-  block_ran t out left h a b = rw (a, b) (ap (block_end s frames mask table input output work) (ap said_made (sym h) ∙ e))
+  pub block_ran : (t : State) (out left : List Float) → m ≡ Ok t → left ≡ work_after s frames mask input 0 work → out ≡ output_after s mask table (work_after s frames mask input 0 work) 0 output
+      → block_left (record { state = t; answer = Ok (sizes_of s) }) out left ≡ block_of s frames mask table input output work
+  block_ran t out left h a b = rw (a, b) (ap (block_end s frames mask table input output work) (ap said_result (sym h) ∙ e))
 
   -- a record to come: the tests of the first pass hold
-  pub block_tests : (t : State) → m ≡ made.Ready t → (is_state s ≡ true) × (shape_holds s frames mask (length table) (length input) (length output) (length work) ≡ true)
+  pub block_tests : (t : State) → m ≡ Ok t → (is_state s ≡ true) × (shape_holds s frames mask (length table) (length input) (length output) (length work) ≡ true)
   unfolding planned
   block_tests t h =
-      let a = check_accepted s _ t (sym e ∙ ap said_made h) in
+      let a = check_accepted s _ t (sym e ∙ ap said_result h) in
       let b = accepted (shape_holds s frames mask (length table) (length input) (length output) (length work)) _ _ _ t a.1 in
       (a.0, b.0)
 
 -- ---- the two ways out of a reset
-module _ (s : State) (work : List Float) (m : Made) (e : said_made m ≡ resetting s (length work)) where
-  pub reset_refused : (r : Refusal) → m ≡ made.Refused r → reset_left (record { state = s; answer = done.Refused r }) work ≡ reset_of s work
-  reset_refused r h = ap (reset_end s work) (ap said_made (sym h) ∙ e)
+module _ (s : State) (work : List Float) (m : Result State Refusal) (e : said_result m ≡ resetting s (length work)) where
+  pub reset_refused : (r : Refusal) → m ≡ Err r → reset_left (record { state = s; answer = Err r }) work ≡ reset_of s work
+  reset_refused r h = ap (reset_end s work) (ap said_result (sym h) ∙ e)
 
-  pub reset_done : (t : State) (left : List Float) → m ≡ made.Ready t → left ≡ replicate (length work) zero_f
-      → reset_left (record { state = t; answer = done.Accepted }) left ≡ reset_of s work
-  reset_done t left h a = rw a (ap (reset_end s work) (ap said_made (sym h) ∙ e))
+  pub reset_done : (t : State) (left : List Float) → m ≡ Ok t → left ≡ replicate (length work) zero_f
+      → reset_left (record { state = t; answer = Ok tt }) left ≡ reset_of s work
+  reset_done t left h a = rw a (ap (reset_end s work) (ap said_result (sym h) ∙ e))

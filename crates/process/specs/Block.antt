@@ -1,19 +1,15 @@
 -- Document 01, "Block run" (2 as R-1 of document 02 has it) and reset: each call as one outcome (what it says, the record, the output area, the working area) for every input. Definitions only.
 use Rattle.std.specs.Prelude.{List, ℕ, ◌*◌, ◌/◌, Float, length, replicate}
 use Rattle.exact.specs.Doubles.{zero_f}
-use Rattle.error.specs.Refusals.{Said, given, refused, number_of, values_of}
+use Rattle.error.specs.Refusals.{Said, given, refused, said_result}
 use Rattle.state.specs.declared.State.{State}
 use Rattle.state.specs.Record.{points_in, step_now_of}
 use Rattle.asynchro.specs.declared.Outcome.{Outcome}
-use Rattle.asynchro.specs.Calls.{said_done}
 use Rattle.area.specs.Moves.{moved_all, loaded_all}
 use Rattle.frames.specs.Run.{ran_all}
 use Rattle.shape.specs.Shape.{read_of, stride_of}
 use Rattle.plan.specs.Plan.{increment_of, planned, resetting}
 use Rattle.process.specs.declared.Sizes.{Sizes}
-use Rattle.process.specs.declared.BlockOutcome.{BlockOutcome}
-use Rattle.process.specs.declared.Ran.{Ran}
-use Rattle.process.specs.declared.Ran.TheVariants as ran
 
 -- ---- the areas
 -- document 02, R-1: the move in every channel; then the reading, from place `at` of each share of the input, and the zeros, in those that the mask has on
@@ -62,14 +58,10 @@ reset_end s work (refused n vs) = record { state = s; said = refused n vs; work 
 abbrev pub reset_of : State → List Float → Reset
 reset_of s work = reset_end s work (resetting s (length work))
 
--- ---- the block's answer in document 01's words
-abbrev pub said_ran : Ran → Said Sizes
-said_ran (ran.Used z) = given z
-said_ran (ran.Refused r) = refused (number_of r) (values_of r)
-
+-- ---- the outcomes in document 01's words
 -- what a call of the block run left: its outcome, and the two areas that it may change
-abbrev pub block_left : BlockOutcome → List Float → List Float → Block Sizes
-block_left o output work = record { state = o.state; said = said_ran o.answer; output = output; work = work }
+abbrev pub block_left : Outcome Sizes → List Float → List Float → Block Sizes
+block_left o output work = record { state = o.state; said = said_result o.answer; output = output; work = work }
 
-abbrev pub reset_left : Outcome → List Float → Reset
-reset_left o work = record { state = o.state; said = said_done o.answer; work = work }
+abbrev pub reset_left : Outcome Unit → List Float → Reset
+reset_left o work = record { state = o.state; said = said_result o.answer; work = work }

@@ -14,29 +14,14 @@ ghost use Rattle.process.specs.Block.{
   reset_left,
 };
 
-use asynchro::{Done, Outcome};
-use error::Refusal;
-use state::{Made, State};
+use asynchro::Outcome;
+use state::State;
 
 // The two sizes that a block used.
 #[derive(Clone, Copy)]
 pub struct Sizes {
     pub input: usize,
     pub output: usize,
-}
-
-// What a block answers.
-#[derive(Clone, Copy)]
-pub enum Ran {
-    Used(Sizes),
-    Refused(Refusal),
-}
-
-// What a block leaves: the new record, or on a refusal the record given.
-#[derive(Clone, Copy)]
-pub struct BlockOutcome {
-    pub state: State,
-    pub answer: Ran,
 }
 
 // The second pass: what the areas become. The move comes first, in every channel; reading, zeros and
@@ -87,7 +72,7 @@ pub fn process_into_buffer(
     input: &[f64],
     output: &mut [f64],
     work: &mut [f64],
-) -> BlockOutcome
+) -> Outcome<Sizes>
     ensures { block_left result output.new work.new ≡ block_of s frames mask table.now input.now output.old work.old }
 {
     match plan::plan(
@@ -99,15 +84,15 @@ pub fn process_into_buffer(
         output.len(),
         work.len(),
     ) {
-        Made::Refused(r) => BlockOutcome {
+        Err(r) => Outcome {
             state: s,
-            answer: Ran::Refused(r),
+            answer: Err(r),
         },
-        Made::Ready(next) => {
+        Ok(next) => {
             write(s, frames, mask, table, input, 0, output, 0, work);
-            BlockOutcome {
+            Outcome {
                 state: next,
-                answer: Ran::Used(Sizes {
+                answer: Ok(Sizes {
                     input: s.input,
                     output: s.output,
                 }),
@@ -117,19 +102,19 @@ pub fn process_into_buffer(
 }
 
 // Reset: ratio, chunk, index and sizes as at the start, zeros in the working area, the fill stays.
-pub fn reset(s: State, work: &mut [f64]) -> Outcome
+pub fn reset(s: State, work: &mut [f64]) -> Outcome<()>
     ensures { reset_left result work.new ≡ reset_of s work.old }
 {
     match plan::plan_reset(s, work.len()) {
-        Made::Refused(r) => Outcome {
+        Err(r) => Outcome {
             state: s,
-            answer: Done::Refused(r),
+            answer: Err(r),
         },
-        Made::Ready(next) => {
+        Ok(next) => {
             area::zero_all(work);
             Outcome {
                 state: next,
-                answer: Done::Accepted,
+                answer: Ok(()),
             }
         }
     }

@@ -7,7 +7,7 @@ mod setup;
 use blocks::Reading;
 use course::Run;
 use options::{Files, Options, say, say_start};
-use state::{Made, State};
+use state::State;
 use system::System;
 
 // The pass itself. Its areas have up to 131,072 samples each.
@@ -154,7 +154,7 @@ fn pass_of(sys: &mut System, s: State, o: Options, changes: &[u64], table: &mut 
 
 // A table has up to 262,144 entries; a polynomial has none.
 fn pass_on(sys: &mut System, o: Options, changes: &[u64]) -> bool {
-    let Made::Ready(s) = setup::made_told(sys, o) else {
+    let Ok(s) = setup::made_told(sys, o) else {
         return false;
     };
     if !setup::is_ready(sys, s, setup::mask_of(o), 131072) {

@@ -1,11 +1,12 @@
 // The pass: block after block, until the first frame past the input or, with --raw, until the input is over.
+use asynchro::Outcome;
 use blocks::{Reading, read_frames};
 use course::{
     Pass, Run, accepted, before_block, finished, is_going, refused, run_of, stop_told, stopped,
     tell,
 };
 use options::{Files, Options};
-use process::{BlockOutcome, Ran};
+use process::Sizes;
 use state::State;
 use system::System;
 
@@ -18,20 +19,19 @@ fn answered(
     sys: &mut System,
     p: Pass,
     s: State,
-    outcome: BlockOutcome,
+    outcome: Outcome<Sizes>,
     r: Reading,
     raw: bool,
     files: Files,
     output: &[f64],
 ) -> Run {
     let state = outcome.state;
-    let answer = outcome.answer;
-    match answer {
-        Ran::Refused(e) => {
+    match outcome.answer {
+        Err(e) => {
             let form = b"block # was refused with number #\n";
             run_of(state, refused(sys, p, files, form, e))
         }
-        Ran::Used(_) => run_of(
+        Ok(_) => run_of(
             state,
             accepted(sys, p, s, state.index, r, raw, files, output),
         ),

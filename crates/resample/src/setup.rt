@@ -6,7 +6,7 @@ use error::Refusal;
 use kinds::Kind;
 use options::{Files, Options, say, say_refused, say_start};
 use sizes::FixedAsync;
-use state::{Made, State};
+use state::State;
 use system::System;
 
 fn degree_of(points: u64) -> PolynomialDegree {
@@ -44,7 +44,7 @@ fn side_of(fixed_out: bool) -> FixedAsync {
     }
 }
 
-fn made(o: Options) -> Made {
+fn made(o: Options) -> Result<State, Refusal> {
     construction::new_kind(
         o.ratio,
         o.m,
@@ -56,9 +56,9 @@ fn made(o: Options) -> Made {
 }
 
 // The record, or the refusal told.
-pub fn made_told(sys: &mut System, o: Options) -> Made {
+pub fn made_told(sys: &mut System, o: Options) -> Result<State, Refusal> {
     let m = made(o);
-    if let Made::Refused(r) = m {
+    if let Err(r) = m {
         say_start(sys);
         say_refused(sys, r);
     }

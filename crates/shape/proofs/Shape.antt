@@ -1,4 +1,5 @@
 -- What refusal 8's test tells of the lent areas, and that a working area is small. Assumes nothing.
+use Rattle.std.specs.Prelude.{Option}
 use mathlib.Core.Bool.{Bool, true, ◌&&◌}
 use mathlib.Core.Path.{◌≡◌, sym, ap, ◌∙◌}
 use Prim.Native.Nat.{ℕ, ◌+◌, ◌*◌, ◌/◌, ◌%◌, ◌≤◌, ◌<◌}
@@ -7,7 +8,6 @@ use native.Mathlib.Omega.{arith}
 use borrow.Author.Tests.{leb-true, eqb-true}
 use lib.Dec.{eqb, leb}
 use Rattle.state.specs.declared.State.{State}
-use Rattle.sizes.specs.declared.Size.{Size}
 use Rattle.sizes.specs.Sizes.{frames_of}
 use Rattle.state.specs.Record.{points_in, max_input_of, is_state}
 use Rattle.kinds.specs.Kinds.{kind_holds, table_of}
@@ -19,7 +19,7 @@ use Rattle.channel.specs.Mask.{mask_fits}
 use Rattle.shape.specs.Shape.{read_of, stride_of, work_holds, table_holds, share_holds, shape_holds}
 
 -- ---- sizes of the working area, which a usize holds
-pub stride_is : (s : State) (z : Size) (n l : ℕ) → z ≡ max_input_of s → n ≡ frames_of z → l ≡ points_in s → n + 2 * l ≡ stride_of s
+pub stride_is : (s : State) (z : Option ℕ) (n l : ℕ) → z ≡ max_input_of s → n ≡ frames_of z → l ≡ points_in s → n + 2 * l ≡ stride_of s
 stride_is s z n l a b c = rw (b, a, c)
 
 pub stride_small : (s : State) → kind_holds s.kind ≡ true → stride_of s ≤ 66048

@@ -7,27 +7,26 @@ ghost use Rattle.kinds.specs.Kinds.{kind_holds};
 ghost use Rattle.state.specs.Record.{max_input_of, is_state};
 ghost use Rattle.shape.specs.Shape.{read_of, stride_of, work_holds, table_holds, share_holds, shape_holds};
 
-use sizes::Size;
 use state::State;
 
 // The smaller of the given count and the needed input.
 pub fn frames_to_read(s: State, frames: usize) -> usize
     ensures { result ≡ read_of s frames }
 {
-    if frames <= s.input { frames } else { s.input }
+    frames.min(s.input)
 }
 
 // Samples of one channel in the working area. The record's kind has passed its test; `most`, here and below, is
 // its maximum input.
-pub fn stride_of(s: State, most: Size) -> usize
+pub fn stride_of(s: State, most: Option<usize>) -> usize
     requires { (kind_holds s.kind ≡ true) × (most ≡ max_input_of s) }
     ensures { result ≡ stride_of s }
 {
-    sizes::frames_of(most) + 2 * state::points_in(s)
+    most.unwrap_or(0) + 2 * state::points_in(s)
 }
 
 // The working area is of exactly the right length. s has passed the StateRecord test.
-pub fn work_holds(s: State, most: Size, work: usize) -> bool
+pub fn work_holds(s: State, most: Option<usize>, work: usize) -> bool
     requires { (is_state s ≡ true) × (most ≡ max_input_of s) }
     ensures { result ≡ work_holds s work }
 {
@@ -54,7 +53,7 @@ fn share_holds(s: State, area: usize, frames: usize) -> bool
 // Refusal 8's test. s has passed the StateRecord test.
 pub fn validate_buffers(
     s: State,
-    most: Size,
+    most: Option<usize>,
     frames: usize,
     mask: u64,
     table: usize,

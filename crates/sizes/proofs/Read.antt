@@ -6,10 +6,9 @@ use Rattle.exact.specs.Doubles.{◌+f◌, ◌*f◌, ◌/f◌, count, two_f}
 use Rattle.whole.specs.Rounded.{ceil_of}
 use Rattle.sizes.specs.declared.FixedAsync.{FixedAsync}
 use Rattle.sizes.specs.declared.FixedAsync.TheVariants.{Input, Output}
-use Rattle.sizes.specs.declared.Size.{Size}
-use Rattle.sizes.specs.declared.Size.TheVariants.{Frames, TooLarge}
+use Rattle.std.specs.Prelude.{Option, Some, None, is_some}
 use Rattle.sizes.specs.Bounds.{is_size}
-use Rattle.sizes.specs.Sizes.{sized, size_of, size_of_count, input_float, output_float, needed_input, needed_output, max_input, is_frames, frames_of, size_equals, size_at_least}
+use Rattle.sizes.specs.Sizes.{sized, size_of, size_of_count, input_float, output_float, needed_input, needed_output, max_input, frames_of, size_equals, size_at_least}
 
 -- ---- a size is at most 65,536
 counted_small : (b : Bool) (n : ℕ) → is_size n ≡ b → frames_of (sized b n) ≤ 65536
@@ -43,29 +42,29 @@ max_small Input l c0 r0 m = count_small c0
 max_small Output l c0 r0 m = size_small (ceil_of (count c0 /f r0 *f m) +f two_f +f count (l / 2))
 
 -- ---- reading a size
-pub size_is : (z : Size) (n : ℕ) → size_equals z n ≡ true → z ≡ Frames n
-size_is (Frames k) n h = ap Frames (eqb-true k n h)
-size_is TooLarge n h = absurd (false≢true h)
+pub size_is : (z : Option ℕ) (n : ℕ) → size_equals z n ≡ true → z ≡ Some n
+size_is (Some k) n h = ap Some (eqb-true k n h)
+size_is None n h = absurd (false≢true h)
 
-pub size_holds : (z : Size) (n : ℕ) → size_at_least z n ≡ true → n ≤ frames_of z
-size_holds (Frames k) n h = leb-true n k h
-size_holds TooLarge n h = absurd (false≢true h)
+pub size_holds : (z : Option ℕ) (n : ℕ) → size_at_least z n ≡ true → n ≤ frames_of z
+size_holds (Some k) n h = leb-true n k h
+size_holds None n h = absurd (false≢true h)
 
-pub is_frames_lem : (z : Size) → is_frames z ≡ true → z ≡ Frames (frames_of z)
-is_frames_lem (Frames k) h = refl
-is_frames_lem TooLarge h = absurd (false≢true h)
+pub is_some_lem : (z : Option ℕ) → is_some z ≡ true → z ≡ Some (frames_of z)
+is_some_lem (Some k) h = refl
+is_some_lem None h = absurd (false≢true h)
 
 -- a size that was worked out is the number that is written down
-pub own_size : (z : Size) → is_frames z ≡ true → size_equals z (frames_of z) ≡ true
-own_size (Frames n) h = eq-eqb n n refl
-own_size TooLarge h = h
+pub own_size : (z : Option ℕ) → is_some z ≡ true → size_equals z (frames_of z) ≡ true
+own_size (Some n) h = eq-eqb n n refl
+own_size None h = h
 
 -- and it holds 0 frames
-pub none_held : (z : Size) → is_frames z ≡ true → size_at_least z 0 ≡ true
-none_held (Frames n) h = le-leb 0 n zero-le
-none_held TooLarge h = h
+pub none_held : (z : Option ℕ) → is_some z ≡ true → size_at_least z 0 ≡ true
+none_held (Some n) h = le-leb 0 n zero-le
+none_held None h = h
 
 -- a count that is a size
-pub counted : (b : Bool) (n : ℕ) → is_size n ≡ b → is_frames (sized b n) ≡ true → n ≤ 65536
+pub counted : (b : Bool) (n : ℕ) → is_size n ≡ b → is_some (sized b n) ≡ true → n ≤ 65536
 counted true n h k = leb-true n 65536 h
 counted false n h k = absurd (false≢true k)

@@ -13,10 +13,10 @@ use Rattle.whole.proofs.Held.{next_value, whole_f_value}
 use Rattle.whole.proofs.Sizes.{NotBelow, no_number, endless, a_size, minus_zero, not_below}
 use Rattle.sizes.specs.Bounds.{high_f}
 use Rattle.sizes.specs.Sizes.{size_of, size_of_count}
-use Rattle.sizes.specs.declared.Size.TheVariants.{Frames, TooLarge}
+use Rattle.std.specs.Prelude.{Some, None}
 
 -- below 0: none
-pub size_none : (x : Float) → lt x zero_f ≡ true → size_of x ≡ Frames 0
+pub size_none : (x : Float) → lt x zero_f ≡ true → size_of x ≡ Some 0
 unfolding size_of lt of_bits
 size_none nan h = absurd (false≢true h)
 size_none (inf true) h = refl
@@ -39,7 +39,7 @@ size_cut x n q p h = go (not_below x p) q h
     go (minus_zero e) q h = ap size_of_count h
 
 -- not below 2 ^ 17: too large
-pub size_large : (x : Float) → lt x high_f ≡ false → size_of x ≡ TooLarge
+pub size_large : (x : Float) → lt x high_f ≡ false → size_of x ≡ None
 unfolding size_of lt of_bits
 size_large nan q = refl
 size_large (inf true) q = absurd (true≢false q)
@@ -51,14 +51,14 @@ size_large (fin false m e) q =
     rw (lt-leb (m * up e / down e) 65536 (omega arith))
 
 -- ---- the one truncation: a size is the size of the double truncated, and that of a whole number is its count
-size_whole : (y : Float) (s : Bool) (n : ℕ) → HasValue y s n 1 → size_of y ≡ cond s (Frames 0) (size_of_count n)
+size_whole : (y : Float) (s : Bool) (n : ℕ) → HasValue y s n 1 → size_of y ≡ cond s (Some 0) (size_of_count n)
 unfolding size_of
 size_whole nan s n v = absurd v
 size_whole (inf t) s n v = absurd v
-size_whole (fin true m e) s n v = ap (λ (b : Bool). cond b (Frames 0) (size_of_count n)) v.0
+size_whole (fin true m e) s n v = ap (λ (b : Bool). cond b (Some 0) (size_of_count n)) v.0
 size_whole (fin false m e) s n v =
     let k : m * up e / down e ≡ n = ap (λ (a : ℕ). a / down e) (sym (mul-one (m * up e)) ∙ v.1) ∙ mul-div_cancel n (down_pos e) in
-    ap size_of_count k ∙ ap (λ (b : Bool). cond b (Frames 0) (size_of_count n)) v.0
+    ap size_of_count k ∙ ap (λ (b : Bool). cond b (Some 0) (size_of_count n)) v.0
 
 pub size_trunc : (x : Float) → T (fits binary64 x) → size_of (trunc_of x) ≡ size_of x
 unfolding size_of made_whole
@@ -68,7 +68,7 @@ size_trunc (fin s m e) t =
     let n = m * up e / down e in
     size_whole (whole_f s n) s n (whole_f_value s n (next_value binary64 s m e n t (inl refl))) ∙ go s
   where
-    go : (b : Bool) → cond b (Frames 0) (size_of_count (m * up e / down e)) ≡ size_of (fin b m e)
+    go : (b : Bool) → cond b (Some 0) (size_of_count (m * up e / down e)) ≡ size_of (fin b m e)
     go true = refl
     go false = refl
 

@@ -1,6 +1,6 @@
 // Sizes: numbers of frames that are worked out of doubles, in the source's operation order.
 // Only our own crates call these.
-#![tactic(auto)]
+#![tactic(auto, unfolding(crate::specs::Sizes::needed_input, crate::specs::Sizes::needed_output, crate::specs::Sizes::max_input, crate::specs::Sizes::max_output))]
 
 ghost use Rattle.std.specs.Prelude.{◌≡◌, ◌≤◌, true};
 ghost use Rattle.exact.specs.Doubles.{count};
@@ -14,24 +14,14 @@ ghost use Rattle.sizes.specs.Sizes.{
   max_input,
   max_output,
   delay_of,
-  is_frames,
-  frames_of,
-  size_equals,
   size_at_least,
 };
 
 // Which side of a block has a fixed number of frames.
-#[derive(Clone, Copy)]
+#[derive(Clone, Copy, Debug, PartialEq, Eq)]
 pub enum FixedAsync {
     Input,
     Output,
-}
-
-// A number of frames, or more than 65,536.
-#[derive(Clone, Copy)]
-pub enum Size {
-    Frames(usize),
-    TooLarge,
 }
 
 // A count as a double.
@@ -41,28 +31,25 @@ pub fn float_of(n: usize) -> f64
     std::num::nearest_u64_to_f64(n as u64)
 }
 
-pub fn size_of_count(n: usize) -> Size
+// A size: a number of frames, or none where that is more than 65,536.
+pub fn size_of_count(n: usize) -> Option<usize>
     ensures { result ≡ size_of_count n }
 {
-    if n <= 65536 {
-        Size::Frames(n)
-    } else {
-        Size::TooLarge
-    }
+    (n <= 65536).then_some(n)
 }
 
 // Truncated, a negative one 0; a NaN and what is beyond 65,536 is too large and never cast.
-pub fn size_of(x: f64) -> Size
+pub fn size_of(x: f64) -> Option<usize>
     ensures { result ≡ size_of x }
 {
     if x < 131072.0 {
         if x < 0.0 {
-            return Size::Frames(0);
+            return Some(0);
         }
         let n = std::num::truncating_f64_to_u64(x);
         return size_of_count(n as usize);
     }
-    Size::TooLarge
+    None
 }
 
 pub fn start_index(l: usize) -> f64
@@ -79,7 +66,7 @@ pub fn calculate_input_size(
     index: f64,
     t1: f64,
     t2: f64,
-) -> Size
+) -> Option<usize>
     ensures { result ≡ needed_input fixed l chunk index t1 t2 }
 {
     match fixed {
@@ -102,7 +89,7 @@ pub fn calculate_output_size(
     index: f64,
     t1: f64,
     t2: f64,
-) -> Size
+) -> Option<usize>
     requires { l ≤ 256 }
     ensures { result ≡ needed_output fixed l chunk index t1 t2 }
 {
@@ -118,7 +105,13 @@ pub fn calculate_output_size(
     }
 }
 
-pub fn calculate_max_input_size(fixed: FixedAsync, l: usize, chunk0: usize, r0: f64, m: f64) -> Size
+pub fn calculate_max_input_size(
+    fixed: FixedAsync,
+    l: usize,
+    chunk0: usize,
+    r0: f64,
+    m: f64,
+) -> Option<usize>
     ensures { result ≡ max_input fixed l chunk0 r0 m }
 {
     match fixed {
@@ -131,7 +124,7 @@ pub fn calculate_max_input_size(fixed: FixedAsync, l: usize, chunk0: usize, r0: 
     }
 }
 
-pub fn calculate_max_output_size(fixed: FixedAsync, chunk0: usize, r0: f64, m: f64) -> Size
+pub fn calculate_max_output_size(fixed: FixedAsync, chunk0: usize, r0: f64, m: f64) -> Option<usize>
     ensures { result ≡ max_output fixed chunk0 r0 m }
 {
     match fixed {
@@ -152,39 +145,9 @@ pub fn delay_of(l: usize, r1: f64) -> usize
     std::num::truncating_f64_to_u64(points * r1 / 2.0) as usize
 }
 
-pub fn is_frames(s: Size) -> bool
-    ensures { result ≡ is_frames s }
+// A size that is n or more.
+pub fn size_holds(size: Option<usize>, n: usize) -> bool
+    ensures { result ≡ size_at_least size n }
 {
-    match s {
-        Size::Frames(_) => true,
-        Size::TooLarge => false,
-    }
-}
-
-// The number of frames, 0 where there are too many.
-pub fn frames_of(s: Size) -> usize
-    ensures { result ≡ frames_of s }
-{
-    match s {
-        Size::Frames(n) => n,
-        Size::TooLarge => 0,
-    }
-}
-
-pub fn size_is(s: Size, n: usize) -> bool
-    ensures { result ≡ size_equals s n }
-{
-    match s {
-        Size::Frames(k) => k == n,
-        Size::TooLarge => false,
-    }
-}
-
-pub fn size_holds(s: Size, n: usize) -> bool
-    ensures { result ≡ size_at_least s n }
-{
-    match s {
-        Size::Frames(k) => n <= k,
-        Size::TooLarge => false,
-    }
+    size.is_some_and(|k| n <= k)
 }

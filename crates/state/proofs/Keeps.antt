@@ -4,10 +4,11 @@ use mathlib.Core.Path.{◌≡◌, subst}
 use Prim.Native.Nat.{◌≤◌}
 use native.Mathlib.Nat.{le_trans}
 use borrow.Author.Tests.{le-leb}
+use Rattle.std.specs.Prelude.{is_some}
 use Rattle.error.specs.Refusals.{given}
 use Rattle.error.proofs.Ladder.{join, accepted, same_given}
 use Rattle.sizes.specs.Bounds.{is_channels, is_chunk}
-use Rattle.sizes.specs.Sizes.{is_frames, frames_of, size_at_least}
+use Rattle.sizes.specs.Sizes.{frames_of, size_at_least}
 use Rattle.sizes.proofs.Read.{own_size}
 use Rattle.state.specs.declared.State.{State}
 use Rattle.state.specs.Record.{counts_hold, input_of, output_of, max_input_of, is_state, with_sizes, update_lengths}
@@ -24,8 +25,8 @@ counts_join s h a b c =
 pub update_keeps : (s t : State) → Ready s → update_lengths s ≡ given t → is_state t ≡ true
 unfolding update_lengths
 update_keeps s t r e =
-    let a = accepted (is_frames (input_of s)) _ _ _ t e in
-    let b = accepted (is_frames (output_of s)) _ _ _ t a.1 in
+    let a = accepted (is_some (input_of s)) _ _ _ t e in
+    let b = accepted (is_some (output_of s)) _ _ _ t a.1 in
     let c = accepted (size_at_least (max_input_of s) (frames_of (input_of s))) _ _ _ t b.1 in
     let z = with_sizes s (frames_of (input_of s)) (frames_of (output_of s)) in
     let ready : Ready z = record { kind = r.kind; counts = r.counts; ratios = r.ratios; steps = r.steps; maxima = r.maxima; fill = r.fill; index = r.index } in

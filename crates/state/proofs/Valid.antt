@@ -8,11 +8,11 @@ use lib.Dec.{leb}
 use Rattle.exact.specs.Doubles.{at_least_one}
 use Rattle.error.proofs.Ladder.{both, join}
 use Rattle.kinds.specs.Kinds.{kind_holds}
-use Rattle.sizes.specs.declared.Size.TheVariants.{Frames}
+use Rattle.std.specs.Prelude.{Some, is_some}
 use Rattle.state.specs.declared.State.{State}
 use Rattle.sizes.specs.Bounds.{is_ratio, is_channels, is_chunk, is_size, is_index}
-use Rattle.sizes.specs.Sizes.{is_frames, frames_of, size_equals, size_at_least}
-use Rattle.sizes.proofs.Read.{input_small, output_small, max_small, size_is, size_holds, is_frames_lem}
+use Rattle.sizes.specs.Sizes.{frames_of, size_equals, size_at_least}
+use Rattle.sizes.proofs.Read.{input_small, output_small, max_small, size_is, size_holds, is_some_lem}
 use Rattle.steps.specs.Steps.{step_of, is_step}
 use Rattle.state.specs.Record.{points_in, step_now_of, step_then_of, input_of, output_of, max_input_of, max_output_of, counts_hold, ratios_hold, steps_hold, maxima_hold, sizes_hold, is_state}
 use Rattle.steps.proofs.Steps.{step_is}
@@ -68,10 +68,10 @@ pub record Valid (s : State) : Type 0 where
   pub m_holds : at_least_one s.m ≡ true
   pub step_now_is : step_now_of s ≡ step_of s.current
   pub step_then_is : step_then_of s ≡ step_of s.target
-  pub input_is : input_of s ≡ Frames s.input
-  pub output_is : output_of s ≡ Frames s.output
-  pub max_input_is : max_input_of s ≡ Frames (frames_of (max_input_of s))
-  pub max_output_is : max_output_of s ≡ Frames (frames_of (max_output_of s))
+  pub input_is : input_of s ≡ Some s.input
+  pub output_is : output_of s ≡ Some s.output
+  pub max_input_is : max_input_of s ≡ Some (frames_of (max_input_of s))
+  pub max_output_is : max_output_of s ≡ Some (frames_of (max_output_of s))
   pub max_input_few : frames_of (max_input_of s) ≤ 65536
   pub input_most : s.input ≤ frames_of (max_input_of s)
   pub fill_most : s.fill ≤ frames_of (max_input_of s)
@@ -94,7 +94,7 @@ valid s h =
     let r1 = both _ _ r2.0 in
     let r0 = both (is_ratio s.original) (is_ratio s.current) r1.0 in
     let u = both (is_step s.now s.current) (is_step s.then s.target) r.steps in
-    let x = both (is_frames (max_input_of s)) (is_frames (max_output_of s)) r.maxima in
+    let x = both (is_some (max_input_of s)) (is_some (max_output_of s)) r.maxima in
     let input = size_is (input_of s) s.input n.input in
     let output = size_is (output_of s) s.output n.output in
     let most = max_small s.fixed (points_in s) s.chunk0 s.original s.m in
@@ -114,8 +114,8 @@ valid s h =
       step_then_is = step_is s.then s.target u.1;
       input_is = input;
       output_is = output;
-      max_input_is = is_frames_lem (max_input_of s) x.0;
-      max_output_is = is_frames_lem (max_output_of s) x.1;
+      max_input_is = is_some_lem (max_input_of s) x.0;
+      max_output_is = is_some_lem (max_output_of s) x.1;
       max_input_few = most;
       input_most = size_holds (max_input_of s) s.input n.input_most;
       fill_most = fill;

@@ -1,17 +1,14 @@
 -- The state record: its steps and sizes, the StateRecord test, and the one end of every call. Definitions only.
-use Rattle.std.specs.Prelude.{Bool, cond, ◌&&◌, [], ℕ, leb, Float}
+use Rattle.std.specs.Prelude.{Bool, cond, ◌&&◌, [], ℕ, leb, Float, Option, is_some}
 use Rattle.exact.specs.Doubles.{at_least_one}
-use Rattle.error.specs.Refusals.{Said, given, refused, unless, number_of, values_of}
+use Rattle.error.specs.Refusals.{Said, given, unless}
 use Rattle.error.specs.declared.Refusal.{Refusal}
 use Rattle.error.specs.declared.Refusal.TheVariants as refusal
 use Rattle.kinds.specs.Kinds.{points_of, kind_holds}
 use Rattle.steps.specs.Steps.{is_step}
 use Rattle.state.specs.declared.State.{State}
-use Rattle.sizes.specs.declared.Size.{Size}
-use Rattle.state.specs.declared.Made.{Made}
-use Rattle.state.specs.declared.Made.TheVariants as made
 use Rattle.sizes.specs.Bounds.{is_ratio, is_channels, is_chunk, is_index}
-use Rattle.sizes.specs.Sizes.{needed_input, needed_output, max_input, max_output, is_frames, frames_of, size_equals, size_at_least}
+use Rattle.sizes.specs.Sizes.{needed_input, needed_output, max_input, max_output, frames_of, size_equals, size_at_least}
 
 -- the points L of a record
 abbrev pub points_in : State → ℕ
@@ -25,16 +22,16 @@ abbrev pub step_then_of : State → Float
 step_then_of s = s.then
 
 -- the sizes by the formulas
-abbrev pub input_of : State → Size
+abbrev pub input_of : State → Option ℕ
 input_of s = needed_input s.fixed (points_in s) s.chunk s.index (step_now_of s) (step_then_of s)
 
-abbrev pub output_of : State → Size
+abbrev pub output_of : State → Option ℕ
 output_of s = needed_output s.fixed (points_in s) s.chunk s.index (step_now_of s) (step_then_of s)
 
-abbrev pub max_input_of : State → Size
+abbrev pub max_input_of : State → Option ℕ
 max_input_of s = max_input s.fixed (points_in s) s.chunk0 s.original s.m
 
-abbrev pub max_output_of : State → Size
+abbrev pub max_output_of : State → Option ℕ
 max_output_of s = max_output s.fixed s.chunk0 s.original s.m
 
 -- Document 01, "StateRecord asks", in its order: ..
@@ -52,7 +49,7 @@ steps_hold s = is_step s.now s.current && is_step s.then s.target
 
 -- "maximum sizes at most 65,536"
 abbrev pub maxima_hold : State → Bool
-maxima_hold s = is_frames (max_input_of s) && is_frames (max_output_of s)
+maxima_hold s = is_some (max_input_of s) && is_some (max_output_of s)
 
 -- "needed sizes equal to the formulas below and within refusal 6's bounds; fill at most maximum input"
 abbrev pub sizes_hold : State → Bool
@@ -98,12 +95,7 @@ with_sizes s i o = changed s s.chunk i o s.fill s.index s.current s.target s.now
 unfoldable pub update_lengths : State → Said State
 unfolding unless
 update_lengths s =
-    unless (is_frames (input_of s)) 6 []
-    (unless (is_frames (output_of s)) 6 []
+    unless (is_some (input_of s)) 6 []
+    (unless (is_some (output_of s)) 6 []
     (unless (size_at_least (max_input_of s) (frames_of (input_of s))) 6 []
     (given (with_sizes s (frames_of (input_of s)) (frames_of (output_of s))))))
-
--- its answer in document 01's words
-abbrev pub said_made : Made → Said State
-said_made (made.Ready s) = given s
-said_made (made.Refused r) = refused (number_of r) (values_of r)

@@ -2,6 +2,7 @@
 #![tactic(auto)]
 
 ghost use Rattle.std.specs.Prelude.{◌≡◌, true};
+ghost use Rattle.error.specs.Refusals.{given, said_result};
 ghost use Rattle.kinds.specs.Kinds.{kind_holds};
 ghost use Rattle.state.specs.Record.{
   step_now_of,
@@ -18,13 +19,13 @@ ghost use Rattle.state.specs.Record.{
   sizes_hold,
   is_state,
   fault_of,
-  said_made,
+  checked,
   update_lengths,
 };
 
 use error::Refusal;
 use kinds::Kind;
-use sizes::{FixedAsync, Size};
+use sizes::FixedAsync;
 
 // Document 01, "The ratio state". `chunk0` is the construction chunk, `input` and `output` are the
 // needed sizes, `fill` the input frames that the working area holds, `m` the largest relative ratio.
@@ -49,13 +50,6 @@ pub struct State {
     pub fixed: FixedAsync,
 }
 
-// A record that a call made, or why not.
-#[derive(Clone, Copy)]
-pub enum Made {
-    Ready(State),
-    Refused(Refusal),
-}
-
 // The stored step of the current ratio, and that of the target, for sizes, t and d: nothing is divided.
 pub fn step_now(s: State) -> f64
     ensures { result ≡ step_now_of s }
@@ -77,7 +71,7 @@ pub fn points_in(s: State) -> usize
     kinds::nbr_points(kind)
 }
 
-pub fn input_of(s: State) -> Size
+pub fn input_of(s: State) -> Option<usize>
     ensures { result ≡ input_of s }
 {
     let t1 = step_now(s);
@@ -87,7 +81,7 @@ pub fn input_of(s: State) -> Size
 }
 
 // `output_of` and `update_lengths` ask that the kind has passed its test; only our own crates call these.
-pub fn output_of(s: State) -> Size
+pub fn output_of(s: State) -> Option<usize>
     requires { kind_holds s.kind ≡ true }
     ensures { result ≡ output_of s }
 {
@@ -97,14 +91,14 @@ pub fn output_of(s: State) -> Size
     sizes::calculate_output_size(fixed, points_in(s), s.chunk, s.index, t1, t2)
 }
 
-pub fn max_input_of(s: State) -> Size
+pub fn max_input_of(s: State) -> Option<usize>
     ensures { result ≡ max_input_of s }
 {
     let fixed = s.fixed;
     sizes::calculate_max_input_size(fixed, points_in(s), s.chunk0, s.original, s.m)
 }
 
-pub fn max_output_of(s: State) -> Size
+pub fn max_output_of(s: State) -> Option<usize>
     ensures { result ≡ max_output_of s }
 {
     let fixed = s.fixed;
@@ -137,26 +131,26 @@ pub fn steps_hold(s: State) -> bool
 
 // `most`, here and below, is the record's maximum input: a caller works it out once for all that it asks.
 // Only our own crates call the functions that take it.
-pub fn maxima_hold(s: State, most: Size) -> bool
+pub fn maxima_hold(s: State, most: Option<usize>) -> bool
     requires { most ≡ max_input_of s }
     ensures { result ≡ maxima_hold s }
 {
-    sizes::is_frames(most) & sizes::is_frames(max_output_of(s))
+    most.is_some() & max_output_of(s).is_some()
 }
 
-fn sizes_hold(s: State, most: Size) -> bool
+fn sizes_hold(s: State, most: Option<usize>) -> bool
     requires { (kind_holds s.kind ≡ true) × (most ≡ max_input_of s) }
     ensures { result ≡ sizes_hold s }
 {
-    sizes::size_is(input_of(s), s.input)
-        & sizes::size_is(output_of(s), s.output)
+    (input_of(s) == Some(s.input))
+        & (output_of(s) == Some(s.output))
         & sizes::size_holds(most, s.input)
         & sizes::size_holds(most, s.fill)
 }
 
 // The test of every call on a record: its kind, refusal 11, and StateRecord, refusal 10. Only our own crates
 // call this form.
-pub fn is_state_of(s: State, most: Size) -> bool
+pub fn is_state_of(s: State, most: Option<usize>) -> bool
     requires { most ≡ max_input_of s }
     ensures { result ≡ is_state s }
 {
@@ -189,28 +183,39 @@ pub fn fault_of(s: State) -> Refusal
     Refusal::Argument
 }
 
-// The one end of every call: sizes, refusal 6, the record put together.
-pub fn update_lengths_of(s: State, most: Size) -> Made
-    requires { (kind_holds s.kind ≡ true) × (most ≡ max_input_of s) }
-    ensures { said_made result ≡ update_lengths s }
+// The first rungs of every call on a record: refusals 11 and 10.
+pub fn check_of(s: State, most: Option<usize>) -> Result<(), Refusal>
+    requires { most ≡ max_input_of s }
+    ensures { said_result result ≡ checked s (given tt) }
 {
-    let needed = input_of(s);
-    let left = output_of(s);
-    let input = sizes::frames_of(needed);
-    let output = sizes::frames_of(left);
-    let within = sizes::size_holds(most, input);
-    if !(sizes::is_frames(needed) & sizes::is_frames(left) & within) {
-        return Made::Refused(Refusal::SizeTooLarge);
+    if !is_state_of(s, most) {
+        return Err(fault_of(s));
     }
-    let mut next = s;
-    next.input = input;
-    next.output = output;
-    Made::Ready(next)
+    Ok(())
 }
 
-pub fn update_lengths(s: State) -> Made
+pub fn check(s: State) -> Result<(), Refusal>
+    ensures { said_result result ≡ checked s (given tt) }
+{
+    check_of(s, max_input_of(s))
+}
+
+// The one end of every call: sizes, refusal 6, the record put together.
+pub fn update_lengths_of(s: State, most: Option<usize>) -> Result<State, Refusal>
+    requires { (kind_holds s.kind ≡ true) × (most ≡ max_input_of s) }
+    ensures { said_result result ≡ update_lengths s }
+{
+    let input = input_of(s).ok_or(Refusal::SizeTooLarge)?;
+    let output = output_of(s).ok_or(Refusal::SizeTooLarge)?;
+    if !sizes::size_holds(most, input) {
+        return Err(Refusal::SizeTooLarge);
+    }
+    Ok(State { input, output, ..s })
+}
+
+pub fn update_lengths(s: State) -> Result<State, Refusal>
     requires { kind_holds s.kind ≡ true }
-    ensures { said_made result ≡ update_lengths s }
+    ensures { said_result result ≡ update_lengths s }
 {
     update_lengths_of(s, max_input_of(s))
 }

@@ -1,4 +1,5 @@
 -- Document 01: "Reach is given exactly when some frame's neighbours, masks disregarded, lie below 0 or at or past 2L+needed input." Document 02, R-4: "Reach covers every grid point's samples". Assumes nothing.
+use Rattle.std.specs.Prelude.{is_some}
 use mathlib.Core.Bool.{Bool, true, false}
 use mathlib.Core.List.{List, []}
 use mathlib.Core.Logic.{◌↔◌}
@@ -20,7 +21,7 @@ use Rattle.grid_places.proofs.Grid.{points_of, range_points}
 use Rattle.state.specs.declared.State.{State}
 use Rattle.state.specs.Record.{input_of, output_of, max_input_of, is_state, update_lengths}
 use Rattle.state.proofs.Checked.{kind_of, check_pass, rung, check_else}
-use Rattle.sizes.specs.Sizes.{frames_of, is_frames, size_at_least}
+use Rattle.sizes.specs.Sizes.{frames_of, size_at_least}
 use Rattle.shape.specs.Shape.{shape_holds}
 use Rattle.plan.specs.Plan.{reach_holds, after_block, planned}
 use Rattle.process.specs.Block.{block_end, block_of}
@@ -38,8 +39,8 @@ grid_answers s q h points factor blend e f l =
 sizes_not_9 : (s : State) → update_lengths s ≡ refused 9 [] → ⊥
 unfolding update_lengths
 sizes_not_9 s e =
-    let a = rung (is_frames (input_of s)) 6 9 [] [] _ (λ z. omega arith) e in
-    let b = rung (is_frames (output_of s)) 6 9 [] [] _ (λ z. omega arith) a.1 in
+    let a = rung (is_some (input_of s)) 6 9 [] [] _ (λ z. omega arith) e in
+    let b = rung (is_some (output_of s)) 6 9 [] [] _ (λ z. omega arith) a.1 in
     let c = rung (size_at_least (max_input_of s) (frames_of (input_of s))) 6 9 [] [] _ (λ z. omega arith) b.1 in
     let d = c.1 in
     absurd (let z : ◌≡◌ {A = ℕ} 0 1 = cc in omega arith)

@@ -12,16 +12,10 @@ use Rattle.interpolation.specs.declared.Point.{Point}
 use Rattle.interpolation.specs.Grid.{said_time}
 use Rattle.interpolation.proofs.Settled.{time_settled}
 use Rattle.state.specs.declared.State.{State}
-use Rattle.state.specs.declared.Made.{Made}
 use Rattle.asynchro.specs.declared.Outcome.{Outcome}
-use Rattle.questions.specs.declared.Count.{Count}
-use Rattle.state.specs.Record.{said_made}
-use Rattle.asynchro.specs.Calls.{Result, result_of}
-use Rattle.questions.specs.Questions.{said_count}
-use Rattle.asynchro.proofs.Settled.{made_settled, outcome_settled}
-use Rattle.questions.proofs.Settled.{count_settled}
+use Rattle.asynchro.specs.Calls.{Left, result_of}
+use Rattle.asynchro.proofs.Settled.{outcome_settled}
 use Rattle.process.specs.declared.Sizes.{Sizes}
-use Rattle.process.specs.declared.BlockOutcome.{BlockOutcome}
 use Rattle.process.specs.Block.{Block, Reset, block_left, reset_left}
 use Rattle.process.proofs.Settled.{block_settled, reset_settled}
 use Rattle.window_points.specs.Filled.{Filled, built_left}
@@ -57,24 +51,24 @@ pub grid_4 : (defined : Said (List Point)) (a b : result.Result (List Point) Ref
 grid_4 = one_outcome said_result result_settled
 
 -- construction
-pub constructions : (defined : Said State) (a b : Made) → said_made a ≡ defined → said_made b ≡ defined → a ≡ b
-constructions = one_outcome said_made made_settled
+pub constructions : (defined : Said State) (a b : result.Result State Refusal) → said_result a ≡ defined → said_result b ≡ defined → a ≡ b
+constructions = one_outcome said_result result_settled
 
 -- ratio and chunk settings
-pub settings : (defined : Result Unit) (a b : Outcome) → result_of a ≡ defined → result_of b ≡ defined → a ≡ b
+pub settings : (defined : Left Unit) (a b : Outcome Unit) → result_of a ≡ defined → result_of b ≡ defined → a ≡ b
 settings = one_outcome result_of outcome_settled
 
 -- questions about a number
-pub questions : (defined : Said ℕ) (a b : Count) → said_count a ≡ defined → said_count b ≡ defined → a ≡ b
-questions = one_outcome said_count count_settled
+pub questions : (defined : Said ℕ) (a b : result.Result ℕ Refusal) → said_result a ≡ defined → said_result b ≡ defined → a ≡ b
+questions = one_outcome said_result result_settled
 
 -- the block run: the outcome, the output area and the working area
-pub blocks : (defined : Block Sizes) (o p : BlockOutcome) (output output' work work' : List Float) → block_left o output work ≡ defined → block_left p output' work' ≡ defined
+pub blocks : (defined : Block Sizes) (o p : Outcome Sizes) (output output' work work' : List Float) → block_left o output work ≡ defined → block_left p output' work' ≡ defined
     → (o ≡ p) × (output ≡ output') × (work ≡ work')
 blocks defined o p output output' work work' a b = block_settled o p output output' work work' (a ∙ sym b)
 
 -- reset: the outcome and the working area
-pub resets : (defined : Reset) (o p : Outcome) (work work' : List Float) → reset_left o work ≡ defined → reset_left p work' ≡ defined → (o ≡ p) × (work ≡ work')
+pub resets : (defined : Reset) (o p : Outcome Unit) (work work' : List Float) → reset_left o work ≡ defined → reset_left p work' ≡ defined → (o ≡ p) × (work ≡ work')
 resets defined o p work work' a b = reset_settled o p work work' (a ∙ sym b)
 
 -- a window or a table in a lent area: the answer and the area

@@ -14,7 +14,7 @@ use Rattle.interpolation.specs.Grid.{nearest2, nearest4}
 use Rattle.sizes.specs.declared.FixedAsync.TheVariants.{Input, Output}
 use Rattle.state.specs.declared.State.{State}
 use Rattle.construction.specs.Construction.{construct}
-use Rattle.asynchro.specs.Calls.{Result, set_ratio}
+use Rattle.asynchro.specs.Calls.{Left, set_ratio}
 use Rattle.process.specs.declared.Sizes.{Sizes}
 use Rattle.shape.specs.Shape.{stride_of}
 use Rattle.plan.specs.Plan.{increment_of}
@@ -43,7 +43,7 @@ said_items f (refused n vs) = refusal n ∷ []
 abbrev pub built : Said State → (State → List Item) → List Item
 built c f = said_items f c
 
-abbrev pub setting_said : Result Unit → List Item
+abbrev pub setting_said : Left Unit → List Item
 setting_said r = said_items (λ u. accepted ∷ []) r.said
 
 abbrev pub block_said : Block Sizes → List Item

@@ -9,7 +9,7 @@ overflow_mul-result c = omega (arith, c.points_in.ensures, points_few c.args.s.k
 
 pub overflow_add-result : goal.overflow_add-result
 overflow_add-result c = let s = c.args.s in
-    omega (arith, stride_small s c.requires.0, stride_is s _ _ _ c.requires.1 c.frames_of.ensures c.points_in.ensures)
+    omega (arith, stride_small s c.requires.0, stride_is s _ _ _ c.requires.1 c.unwrap_or.ensures c.points_in.ensures)
 
 pub returns : goal.returns
-returns c = stride_is c.args.s _ _ _ c.requires.1 c.frames_of.ensures c.points_in.ensures
+returns c = stride_is c.args.s _ _ _ c.requires.1 c.unwrap_or.ensures c.points_in.ensures

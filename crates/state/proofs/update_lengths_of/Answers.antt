@@ -1,11 +1,28 @@
 -- `state::update_lengths_of` meets its contract: refusal 6 in its three places, then the record put together. Assumes nothing.
-use Rattle.state.proofs.Ends.{end_refused, end_given}
+use Rattle.std.proofs.Common.{sym, ◌∙◌, ap}
+use Rattle.std.proofs.lemmas.Result.{err_from_is_err_and}
+use Rattle.sizes.specs.Sizes.{size_at_least}
+use Rattle.state.proofs.Ends.{refused_with, no_input, no_output, too_long, end_given}
 use Rattle.state.proofs.update_lengths_of.Goals as goal
 
-pub returns-then-not-is_frames-within : goal.returns-then-not-is_frames-within
-returns-then-not-is_frames-within c = end_refused c.args.s c.input_of-needed.ensures c.output_of-left.ensures c.frames_of-input.ensures c.requires.1
-    c.is_frames.ensures c.is_frames-2.ensures c.size_holds-within.ensures c.if-not-is_frames-within.true
+pub returns-in_err-input : goal.returns-in_err-input
+returns-in_err-input c =
+    let p = err_from_is_err_and c.from_residual.result c.from_residual.ensures.1 in
+    let e = c.in_err-input.ensures in
+    rw (p.1, p.2, refused_with e.value e.ok_part) (no_input _ (sym c.input_of.ensures ∙ e.ok_part))
+
+pub returns-in_err-output : goal.returns-in_err-output
+returns-in_err-output c =
+    let p = err_from_is_err_and c.from_residual-in_err-output.result c.from_residual-in_err-output.ensures.1 in
+    let e = c.in_err-output.ensures in
+    rw (p.1, p.2, refused_with e.value e.ok_part) (no_output _ (sym c.input_of.ensures ∙ c.in_ok-input.ensures.ok_part) (sym c.output_of.ensures ∙ e.ok_part))
+
+pub returns-then-not-size_holds : goal.returns-then-not-size_holds
+returns-then-not-size_holds c =
+    too_long _ (sym c.input_of.ensures ∙ c.in_ok-input.ensures.ok_part) (sym c.output_of.ensures ∙ c.in_ok-output.ensures.ok_part)
+    (ap (λ m. size_at_least m c.in_ok-input.input) (sym c.requires.1) ∙ sym c.size_holds.ensures ∙ c.if-not-size_holds.true)
 
 pub returns : goal.returns
-returns c = end_given c.args.s c.input_of-needed.ensures c.output_of-left.ensures c.frames_of-input.ensures c.requires.1
-    c.is_frames.ensures c.is_frames-2.ensures c.size_holds-within.ensures c.frames_of-output.ensures c.if-not-is_frames-within.false
+returns c =
+    end_given _ (sym c.input_of.ensures ∙ c.in_ok-input.ensures.ok_part) (sym c.output_of.ensures ∙ c.in_ok-output.ensures.ok_part)
+    (ap (λ m. size_at_least m c.in_ok-input.input) (sym c.requires.1) ∙ sym c.size_holds.ensures ∙ c.if-not-size_holds.false)

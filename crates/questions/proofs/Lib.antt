@@ -1,2 +1,0 @@
--- Laws of the questions. Assumes nothing.
-pub mod Settled

@@ -1,8 +1,0 @@
--- `questions::output_frames_max` meets its contract. Assumes nothing.
-use mathlib.Core.Path.{ap, ◌∙◌}
-use Rattle.sizes.specs.Sizes.{frames_of}
-use Rattle.questions.specs.Questions.{asked}
-use Rattle.questions.proofs.output_frames_max.Goals as goal
-
-pub returns : goal.returns
-returns c = c.asked_count.ensures ∙ ap (asked c.args.s) (c.frames_of.ensures ∙ ap frames_of c.max_output_of.ensures)
