@@ -2,8 +2,9 @@
 // 1,024.
 #![tactic(auto)]
 
-ghost use Rattle.std.specs.Prelude.{◌≡◌};
+ghost use Rattle.std.specs.Prelude.{◌≡◌, ◌≤◌};
 ghost use Rattle.quarter.specs.Wave.{wave};
+ghost use Rattle.quarter.specs.Rules.{entry};
 
 const WAVE: [u32; 1025] = [
     1073741824, 1073740561, 1073736771, 1073730454, 1073721611, 1073710241, 1073696345, 1073679922,
@@ -136,10 +137,32 @@ const WAVE: [u32; 1025] = [
     0,
 ];
 
-// The table, whole. A caller has it made once and lends it: read at a computed place, a constant would
-// be copied at every look.
+// The table, whole: read at a computed place, the constant would be copied at every look.
 pub fn quarter_wave() -> [u32; 1025]
     ensures { result ≡ wave }
 {
     WAVE
+}
+
+// The table as it is lent: a caller has it made once, and no other table is one.
+#[derive(Drop)]
+pub struct QuarterWave {
+    entries: [u32; 1025],
+    ghost made: { entries ≡ wave },
+}
+
+impl QuarterWave {
+    pub fn new() -> Self {
+        QuarterWave {
+            entries: quarter_wave(),
+        }
+    }
+
+    // The entry at place k. Only our own crates call this.
+    pub fn entry(&self, k: usize) -> u32
+        requires { k ≤ 1024 }
+        ensures { result ≡ entry k }
+    {
+        self.entries[k]
+    }
 }

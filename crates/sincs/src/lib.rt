@@ -1,14 +1,14 @@
 // The table of windowed sincs, in an area that is lent: the sum of its values first, the entries after it.
 #![tactic(auto)]
 
-ghost use Rattle.std.specs.Prelude.{◌≡◌, ◌*◌, ◌<◌, true, ◌&&◌, length};
+ghost use Rattle.std.specs.Prelude.{◌≡◌, ◌*◌, ◌<◌, ◌≤◌, true, ◌&&◌, length};
 ghost use Rattle.whole.specs.Small.{small};
-ghost use Rattle.quarter.specs.Wave.{wave};
 ghost use Rattle.window_points.specs.Filled.{listed, built_left};
 ghost use Rattle.sincs.specs.Sinc.{steps_of, tiny, sinc_of, place_of, value_at};
 ghost use Rattle.sincs.specs.Table.{sum_to, sum_of, value_no, entry_at, product_holds, cutoff_holds, sincs_of};
 
 use error::Refusal;
+use quarter::QuarterWave;
 use windows::WindowFunction;
 
 // |v| is below 2^-27. A NaN is not.
@@ -19,96 +19,85 @@ fn is_tiny(v: f64) -> bool
 }
 
 // sinc(v) = sin(pi*v)/(pi*v), over the quarter wave that is lent.
-fn sinc(table: &[u32], v: f64) -> f64
-    requires table_value { table.now ≡ wave }
-    requires v_value { small (steps_of v) ≡ true }
+fn sinc(wave: &QuarterWave, v: f64) -> f64
+    requires { small (steps_of v) ≡ true }
     ensures { result ≡ sinc_of v }
 {
     if is_tiny(v) {
         return 1.0;
     }
-    wave::sine_at(table, 2048.0 * v) / (v * 3.141592653589793)
+    wave::sine_at(wave, 2048.0 * v) / (v * 3.141592653589793)
 }
 
-// Where value x of `total` stands in the sinc.
+// Where value x of `total` stands in the sinc: at few enough steps of the wave.
 fn place_of(total: usize, factor: usize, cutoff: f64, x: usize) -> f64
-    ensures { result ≡ place_of total factor cutoff x }
+    requires x_bound { (x < total) × (total ≤ 65536) }
+    requires factor_bound { (0 < factor) × (factor ≤ 65536) }
+    requires cutoff_value { cutoff_holds cutoff ≡ true }
+    ensures value { result ≡ place_of total factor cutoff x }
+    ensures steps { small (steps_of result) ≡ true }
 {
     let from = std::num::nearest_u64_to_f64(x as u64);
     let middle = std::num::nearest_u64_to_f64((total / 2) as u64);
     (from - middle) * cutoff / std::num::nearest_u64_to_f64(factor as u64)
 }
 
-// Value x of the windowed sinc.
-fn value_at(
-    table: &[u32],
+// The windowed sinc of a table, by its parameters. They passed both tests.
+#[derive(Clone, Copy)]
+struct Windowed {
     points: usize,
     factor: usize,
     cutoff: f64,
     windowfunc: WindowFunction,
-    x: usize,
-) -> f64
-    requires table_value { table.now ≡ wave }
-    requires cutoff_value { (product_holds points factor && cutoff_holds cutoff) ≡ true }
-    requires x_bound { x < points * factor }
-    ensures { result ≡ value_at points factor cutoff windowfunc x }
-{
-    let total = points * factor;
-    let v = place_of(total, factor, cutoff, x);
-    window_points::point_at(table, windowfunc, x, total) * sinc(table, v)
+    ghost holds: { (product_holds points factor && cutoff_holds cutoff) ≡ true },
 }
 
-// The sum of all values, divided by the factor.
-fn sum_of(
-    table: &[u32],
-    points: usize,
-    factor: usize,
-    cutoff: f64,
-    windowfunc: WindowFunction,
-) -> f64
-    requires table_value { table.now ≡ wave }
-    requires cutoff_value { (product_holds points factor && cutoff_holds cutoff) ≡ true }
-    ensures { result ≡ sum_of points factor cutoff windowfunc }
-{
-    let total = points * factor;
-    let mut sum = 0.0;
-    let mut x = 0;
-    while x < total {
-        sum = sum + value_at(table, points, factor, cutoff, windowfunc, x);
-        x += 1;
+impl Windowed {
+    // How many values, and entries, there are.
+    fn total(self) -> usize
+        ensures { result ≡ self.points * self.factor }
+    {
+        self.points * self.factor
     }
-    sum / std::num::nearest_u64_to_f64(factor as u64)
-}
 
-// The number of the value that stands at entry j of the table.
-fn value_no(points: usize, factor: usize, j: usize) -> usize
-    requires { (product_holds points factor ≡ true) × (j < points * factor) }
-    ensures { (result ≡ value_no points factor j) × (result < points * factor) }
-{
-    factor * (j % points) + (factor - 1 - j / points)
-}
+    // Value x of the windowed sinc.
+    fn value(self, wave: &QuarterWave, x: usize) -> f64
+        requires { x < self.points * self.factor }
+        ensures { result ≡ value_at self.points self.factor self.cutoff self.windowfunc x }
+    {
+        let n = self.total();
+        let v = place_of(n, self.factor, self.cutoff, x);
+        window_points::point_at(wave, self.windowfunc, x, n) * sinc(wave, v)
+    }
 
-// Every entry of the table: a value divided by the sum.
-fn fill(
-    table: &[u32],
-    points: usize,
-    factor: usize,
-    cutoff: f64,
-    windowfunc: WindowFunction,
-    sincs: &mut [f64],
-)
-    requires table_value { table.now ≡ wave }
-    requires cutoff_value { (product_holds points factor && cutoff_holds cutoff) ≡ true }
-    requires sincs_len { length sincs.old ≡ points * factor }
-    ensures { sincs.new ≡ listed (entry_at points factor cutoff windowfunc) (points * factor) }
-{
-    let sum = sum_of(table, points, factor, cutoff, windowfunc);
-    let total = sincs.len();
-    let mut j = 0;
-    while j < total {
-        let x = value_no(points, factor, j);
-        sincs[j] = value_at(table, points, factor, cutoff, windowfunc, x) / sum;
-        j += 1;
+    // The sum of all values, divided by the factor.
+    fn sum(self, wave: &QuarterWave) -> f64
+        ensures { result ≡ sum_of self.points self.factor self.cutoff self.windowfunc }
+    {
+        let mut sum = 0.0;
+        for x in 0..self.total() {
+            sum += self.value(wave, x);
+        }
+        sum / std::num::nearest_u64_to_f64(self.factor as u64)
+    }
+
+    // The number of the value that stands at entry j of the table.
+    fn value_no(self, j: usize) -> usize
+        requires { j < self.points * self.factor }
+        ensures { (result ≡ value_no self.points self.factor j) × (result < self.points * self.factor) }
+    {
+        self.factor * (j % self.points) + (self.factor - 1 - j / self.points)
+    }
+
+    // Every entry of the table: a value divided by the sum.
+    fn fill(self, wave: &QuarterWave, sincs: &mut [f64])
+        requires { length sincs.old ≡ self.points * self.factor }
+        ensures { sincs.new ≡ listed (entry_at self.points self.factor self.cutoff self.windowfunc) (self.points * self.factor) }
+    {
+        let sum = self.sum(wave);
+        for j in 0..sincs.len() {
+            sincs[j] = self.value(wave, self.value_no(j)) / sum;
+        }
     }
 }
 
@@ -150,7 +139,12 @@ pub fn make_sincs(
     if sincs.len() != npoints * factor {
         return Err(Refusal::BufferShape);
     }
-    let table = quarter::quarter_wave();
-    fill(&table, npoints, factor, cutoff, windowfunc, sincs);
+    let windowed = Windowed {
+        points: npoints,
+        factor,
+        cutoff,
+        windowfunc,
+    };
+    windowed.fill(&QuarterWave::new(), sincs);
     Ok(())
 }

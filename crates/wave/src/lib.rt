@@ -1,8 +1,8 @@
 // The cosine and the sine, by the quarter wave: of k steps, 4,096 of which make a turn. Between two whole
 // steps a straight line is taken.
 //
-// `cosine_at` and `sine_at`, which are lent the table, are for our own crates: who calls them has it made
-// once, by `quarter::quarter_wave`.
+// `cosine_at` and `sine_at`, which are lent the quarter wave, are for our own crates: who calls them has it
+// made once, by `QuarterWave::new`.
 #![tactic(auto)]
 
 ghost use Rattle.std.specs.Prelude.{◌≡◌, ◌<◌, ◌≤◌, true, [], pos, neg_ℤ};
@@ -10,12 +10,12 @@ ghost use Rattle.std.specs.Float.{binary64};
 ghost use Rattle.std.specs.Float.Ieee.{of_int, to_signed};
 ghost use Rattle.error.specs.Refusals.{given, unless, said_answer};
 ghost use Rattle.whole.specs.Small.{small};
-ghost use Rattle.quarter.specs.Wave.{wave};
 ghost use Rattle.wave.specs.Carried.{place_of, in_quarter};
 ghost use Rattle.wave.specs.Cosine.{cosine_at, sine_at, cosine_said, sine_said};
 ghost use Rattle.wave.specs.Turns.{Castable, place_f, line_from, line_at};
 
 use error::Refusal;
+use quarter::QuarterWave;
 
 // How many places ahead of k the line is taken. The sine is the cosine a quarter of a turn before, which
 // is three quarters on.
@@ -38,26 +38,24 @@ fn minus(w: u32) -> f64
 }
 
 // The value r steps after the start of a quarter.
-fn in_quarter(table: &[u32], quarter: usize, r: usize) -> f64
-    requires table_value { table.now ≡ wave }
-    requires r_bound { r < 1024 }
+fn in_quarter(wave: &QuarterWave, quarter: usize, r: usize) -> f64
+    requires { r < 1024 }
     ensures { result ≡ of_int binary64 (in_quarter quarter r) }
 {
     match quarter {
-        0 => plus(table[r]),
-        1 => minus(table[1024 - r]),
-        2 => minus(table[r]),
-        _ => plus(table[1024 - r]),
+        0 => plus(wave.entry(r)),
+        1 => minus(wave.entry(1024 - r)),
+        2 => minus(wave.entry(r)),
+        _ => plus(wave.entry(1024 - r)),
     }
 }
 
 // The value at a place, which may lie behind the first turn.
-fn step_at(table: &[u32], place: usize) -> f64
-    requires { table.now ≡ wave }
+fn step_at(wave: &QuarterWave, place: usize) -> f64
     ensures { result ≡ place_f place }
 {
     let p = place % 4096;
-    in_quarter(table, p / 1024, p % 1024)
+    in_quarter(wave, p / 1024, p % 1024)
 }
 
 // The place of a whole number of steps in its turn. 2^52 is a number of whole turns.
@@ -71,44 +69,40 @@ fn place_of(floor: f64) -> usize
 }
 
 // The part x of the way from a place to the next one.
-fn line_from(table: &[u32], place: usize, x: f64) -> f64
-    requires table_value { table.now ≡ wave }
-    requires place_bound { place ≤ 8192 }
+fn line_from(wave: &QuarterWave, place: usize, x: f64) -> f64
+    requires { place ≤ 8192 }
     ensures { result ≡ line_from place x }
 {
-    let a = step_at(table, place);
-    let b = step_at(table, place + 1);
+    let a = step_at(wave, place);
+    let b = step_at(wave, place + 1);
     (a + x * (b - a)) * 9.313225746154785e-10
 }
 
 // The line so many places ahead of k.
-fn line_at(table: &[u32], k: f64, ahead: usize) -> f64
-    requires table_value { table.now ≡ wave }
+fn line_at(wave: &QuarterWave, k: f64, ahead: usize) -> f64
     requires k_value { small k ≡ true }
     requires ahead_bound { ahead ≤ 4096 }
     ensures { result ≡ line_at ahead k }
 {
     let s = whole::split(k);
     let place = place_of(s.floor);
-    line_from(table, place + ahead, s.frac)
+    line_from(wave, place + ahead, s.frac)
 }
 
-// The cosine of k steps, over the table that is lent.
-pub fn cosine_at(table: &[u32], k: f64) -> f64
-    requires table_value { table.now ≡ wave }
-    requires k_value { small k ≡ true }
+// The cosine of k steps, over the wave that is lent.
+pub fn cosine_at(wave: &QuarterWave, k: f64) -> f64
+    requires { small k ≡ true }
     ensures { result ≡ cosine_at k }
 {
-    line_at(table, k, COSINE)
+    line_at(wave, k, COSINE)
 }
 
 // The sine of k steps, likewise.
-pub fn sine_at(table: &[u32], k: f64) -> f64
-    requires table_value { table.now ≡ wave }
-    requires k_value { small k ≡ true }
+pub fn sine_at(wave: &QuarterWave, k: f64) -> f64
+    requires { small k ≡ true }
     ensures { result ≡ sine_at k }
 {
-    line_at(table, k, SINE)
+    line_at(wave, k, SINE)
 }
 
 // |k| is below 2^52. A NaN is not.
@@ -126,8 +120,7 @@ fn answered(k: f64, ahead: usize) -> Result<f64, Refusal>
     if !is_small(k) {
         return Err(Refusal::Argument);
     }
-    let table = quarter::quarter_wave();
-    Ok(line_at(&table, k, ahead))
+    Ok(line_at(&QuarterWave::new(), k, ahead))
 }
 
 // The cosine of k steps, |k| below 2^52.

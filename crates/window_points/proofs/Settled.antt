@@ -1,5 +1,5 @@
 -- Two outcomes of a call that fills a lent area which one promise allows are equal. Assumes nothing.
-use Rattle.std.proofs.Common.{◌≡◌, List, refl, ap}
+use Rattle.std.proofs.Common.{◌≡◌, List, ap}
 use lib.Ieee.{Float}
 use Rattle.std.specs.Prelude.{Result}
 use Rattle.error.specs.declared.Refusal.{Refusal}

@@ -3,52 +3,54 @@
 #![tactic(auto)]
 
 ghost use Rattle.std.specs.Prelude.{◌≡◌, ◌<◌, ◌≤◌, true, ◌&&◌, length, nat_le};
-ghost use Rattle.quarter.specs.Wave.{wave};
 ghost use Rattle.window_points.specs.Points.{cosine_of, hann_at, blackman_at, harris_at, square_of, point_at};
 ghost use Rattle.window_points.specs.Filled.{listed, built_left};
 ghost use Rattle.window_points.specs.Window.{window_of};
 
 use error::Refusal;
+use quarter::QuarterWave;
 use windows::WindowFunction;
 
-// The cosine of h times the angle of point i of n.
-fn cosine_of(table: &[u32], h: usize, i: usize, n: usize) -> f64
-    requires table_value { table.now ≡ wave }
-    requires h_bound { (h ≤ 3) × (i < n) × (n ≤ 65536) }
-    ensures { result ≡ cosine_of h i n }
-{
-    let steps = std::num::nearest_u64_to_f64((4096 * h * i) as u64);
-    let k = steps / std::num::nearest_u64_to_f64(n as u64);
-    wave::cosine_at(table, k)
+// The angle of point i of a window of n points, and the wave that its cosines are read from.
+#[derive(Clone, Copy)]
+struct Angle<'a> {
+    wave: &'a QuarterWave,
+    i: usize,
+    n: usize,
+    ghost inside: { (i < n) × (n ≤ 65536) },
 }
 
-fn hann_at(table: &[u32], i: usize, n: usize) -> f64
-    requires table_value { table.now ≡ wave }
-    requires i_lt_n { (i < n) × (n ≤ 65536) }
-    ensures { result ≡ hann_at i n }
-{
-    0.5 - 0.5 * cosine_of(table, 1, i, n)
-}
+impl Angle<'_> {
+    // The cosine of h times the angle.
+    fn cosine(self, h: usize) -> f64
+        requires { h ≤ 3 }
+        ensures { result ≡ cosine_of h self.entry.i self.entry.n }
+    {
+        let steps = std::num::nearest_u64_to_f64((4096 * h * self.i) as u64);
+        let k = steps / std::num::nearest_u64_to_f64(self.n as u64);
+        wave::cosine_at(self.wave, k)
+    }
 
-fn blackman_at(table: &[u32], i: usize, n: usize) -> f64
-    requires table_value { table.now ≡ wave }
-    requires i_lt_n { (i < n) × (n ≤ 65536) }
-    ensures { result ≡ blackman_at i n }
-{
-    let c1 = cosine_of(table, 1, i, n);
-    let c2 = cosine_of(table, 2, i, n);
-    0.42 - 0.5 * c1 + 0.08 * c2
-}
+    fn hann(self) -> f64
+        ensures { result ≡ hann_at self.entry.i self.entry.n }
+    {
+        0.5 - 0.5 * self.cosine(1)
+    }
 
-fn blackman_harris_at(table: &[u32], i: usize, n: usize) -> f64
-    requires table_value { table.now ≡ wave }
-    requires i_lt_n { (i < n) × (n ≤ 65536) }
-    ensures { result ≡ harris_at i n }
-{
-    let c1 = cosine_of(table, 1, i, n);
-    let c2 = cosine_of(table, 2, i, n);
-    let c3 = cosine_of(table, 3, i, n);
-    0.35875 - 0.48829 * c1 + 0.14128 * c2 - 0.01168 * c3
+    fn blackman(self) -> f64
+        ensures { result ≡ blackman_at self.entry.i self.entry.n }
+    {
+        0.42 - 0.5 * self.cosine(1) + 0.08 * self.cosine(2)
+    }
+
+    fn blackman_harris(self) -> f64
+        ensures { result ≡ harris_at self.entry.i self.entry.n }
+    {
+        let c1 = self.cosine(1);
+        let c2 = self.cosine(2);
+        let c3 = self.cosine(3);
+        0.35875 - 0.48829 * c1 + 0.14128 * c2 - 0.01168 * c3
+    }
 }
 
 fn squared(y: f64) -> f64
@@ -57,33 +59,31 @@ fn squared(y: f64) -> f64
     y * y
 }
 
-// Point i of a window of n points, over the table that is lent.
-pub fn point_at(table: &[u32], windowfunc: WindowFunction, i: usize, n: usize) -> f64
-    requires table_value { table.now ≡ wave }
+// Point i of a window of n points, over the wave that is lent.
+#[tactic(auto, unfolding(crate::specs::Points::point_at))]
+pub fn point_at(wave: &QuarterWave, windowfunc: WindowFunction, i: usize, n: usize) -> f64
     requires i_lt_n { (i < n) × (n ≤ 65536) }
     ensures { result ≡ point_at windowfunc i n }
 {
+    let angle = Angle { wave, i, n };
     match windowfunc {
-        WindowFunction::Blackman => blackman_at(table, i, n),
-        WindowFunction::Blackman2 => squared(blackman_at(table, i, n)),
-        WindowFunction::BlackmanHarris => blackman_harris_at(table, i, n),
-        WindowFunction::BlackmanHarris2 => squared(blackman_harris_at(table, i, n)),
-        WindowFunction::Hann => hann_at(table, i, n),
-        WindowFunction::Hann2 => squared(hann_at(table, i, n)),
+        WindowFunction::Blackman => angle.blackman(),
+        WindowFunction::Blackman2 => squared(angle.blackman()),
+        WindowFunction::BlackmanHarris => angle.blackman_harris(),
+        WindowFunction::BlackmanHarris2 => squared(angle.blackman_harris()),
+        WindowFunction::Hann => angle.hann(),
+        WindowFunction::Hann2 => squared(angle.hann()),
     }
 }
 
 // Every point of the window that is as long as the area.
-fn fill(table: &[u32], windowfunc: WindowFunction, window: &mut [f64])
-    requires table_value { table.now ≡ wave }
-    requires window_len_bound { length window.old ≤ 65536 }
+fn fill(wave: &QuarterWave, windowfunc: WindowFunction, window: &mut [f64])
+    requires { length window.old ≤ 65536 }
     ensures { window.new ≡ listed (λ i. point_at windowfunc i (length window.old)) (length window.old) }
 {
     let n = window.len();
-    let mut i = 0;
-    while i < n {
-        window[i] = point_at(table, windowfunc, i, n);
-        i += 1;
+    for i in 0..n {
+        window[i] = point_at(wave, windowfunc, i, n);
     }
 }
 
@@ -107,7 +107,6 @@ pub fn make_window(
     if window.len() != npoints {
         return Err(Refusal::BufferShape);
     }
-    let table = quarter::quarter_wave();
-    fill(&table, windowfunc, window);
+    fill(&QuarterWave::new(), windowfunc, window);
     Ok(())
 }

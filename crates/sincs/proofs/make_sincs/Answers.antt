@@ -13,8 +13,5 @@ overflow_mul-npoints c = record { fits = omega (arith, (tests c.args.npoints c.a
 pub returns-then-sincs-npoints : goal.returns-then-sincs-npoints
 returns-then-sincs-npoints c = ends_shape _ (c.args.npoints * c.args.factor) c.args.sincs.now _ (sym (joined c.product_holds.ensures c.cutoff_holds.ensures) ∙ c.if-not-product_holds-cutoff_holds.false) c.if-sincs-npoints.true
 
-pub fill-requires : goal.fill-requires
-fill-requires c = record { table_value = c.quarter_wave-table.ensures; cutoff_value = sym (joined c.product_holds.ensures c.cutoff_holds.ensures) ∙ c.if-not-product_holds-cutoff_holds.false; sincs_len = c.if-sincs-npoints.false }
-
 pub returns : goal.returns
 returns c = ends_done _ (c.args.npoints * c.args.factor) c.args.sincs.now _ _ (sym (joined c.product_holds.ensures c.cutoff_holds.ensures) ∙ c.if-not-product_holds-cutoff_holds.false) c.if-sincs-npoints.false c.fill.ensures

@@ -8,7 +8,7 @@ pub returns-then-not-is_small : goal.returns-then-not-is_small
 returns-then-not-is_small c = stop _ _ _ _ (sym c.is_small.ensures ∙ c.if-not-is_small.true)
 
 pub line_at-requires : goal.line_at-requires
-line_at-requires c = record { table_value = c.quarter_wave-table.ensures; k_value = sym c.is_small.ensures ∙ c.if-not-is_small.false; ahead_bound = c.requires }
+line_at-requires c = record { k_value = sym c.is_small.ensures ∙ c.if-not-is_small.false; ahead_bound = c.requires }
 
 pub returns : goal.returns
 returns c = pass _ _ _ _ _ (sym c.is_small.ensures ∙ c.if-not-is_small.false) (ap given c.line_at.ensures)

@@ -11,7 +11,7 @@ pub overflow_add-place : goal.overflow_add-place
 overflow_add-place c = record { fits = omega (arith, place_small (to_signed 63 c.split-s.result.floor) c.place_of-place.result c.args.ahead c.place_of-place.ensures c.requires.ahead_bound) }
 
 pub line_from-requires : goal.line_from-requires
-line_from-requires c = record { table_value = c.requires.table_value; place_bound = place_small (to_signed 63 c.split-s.result.floor) c.place_of-place.result c.args.ahead c.place_of-place.ensures c.requires.ahead_bound }
+line_from-requires c = place_small (to_signed 63 c.split-s.result.floor) c.place_of-place.result c.args.ahead c.place_of-place.ensures c.requires.ahead_bound
 
 pub returns : goal.returns
 returns c = let a = c.args in

@@ -6,9 +6,6 @@ use Rattle.window_points.proofs.fill.Goals as goal
 pub loop-i-init : goal.loop-i-init
 loop-i-init c = filling_none _ _
 
-pub point_at-requires : goal.point_at-requires
-point_at-requires c = record { table_value = c.requires.table_value; i_lt_n = search rules }
-
 pub bounds-window-i : goal.bounds-window-i
 bounds-window-i c = let l = c.loop-i in
     rw (filling_long _ _ _ _ l.invariant) (search rules)
@@ -21,4 +18,4 @@ pub shape_of-window : goal.shape_of-window
 shape_of-window c = filling_long _ _ _ _ c.loop-i.invariant
 
 pub returns : goal.returns
-returns c = filling_done _ _ _ c.loop-i.i c.loop-i.invariant (search rules)
+returns c = filling_done _ _ _ _ c.loop-i.invariant (search rules)

@@ -15,7 +15,7 @@ returns-then-window-npoints c = ends_shape _ c.args.npoints c.args.window.now _ 
 pub fill-requires : goal.fill-requires
 fill-requires c = let n = c.args.npoints in
     let r = both (leb 2 n) (leb n 65536) (sym c.in_range.ensures ∙ c.if-not-in_range.false) in
-    record { table_value = c.quarter_wave-table.ensures; window_len_bound = omega (arith, leb-true n 65536 r.1, c.if-window-npoints.false) }
+    omega (arith, leb-true n 65536 r.1, c.if-window-npoints.false)
 
 pub returns : goal.returns
 returns c = let l = c.if-window-npoints.false in
