@@ -1,7 +1,7 @@
 // The axes: a rule and a label at powers of ten, and at round numbers of frames.
-use crate::pen::{put_hundredths, put_label, put_path, put_text};
+use crate::pen::{Hundredths, put_label, put_path, put_text};
 use crate::view::{View, x_of, y_of};
-use printer::{put_bytes, put_decimal};
+use std::fmt;
 
 // The powers of ten above 1 that a number of 64 bits can have.
 const TENS: usize = 19;
@@ -10,71 +10,57 @@ const TENS: usize = 19;
 const RULES: u64 = 13;
 
 // 10^(n - 58), as 1e-12.
-fn put_power(out: &mut [u8], at: usize, n: u64) -> usize {
+fn put_power<W: fmt::Write>(out: &mut W, n: u64) -> fmt::Result {
     if n < 58 {
-        let a = put_bytes(out, at, b"1e-");
-        return put_decimal(out, a, 58 - n);
+        return write!(out, "1e-{}", 58 - n);
     }
-    let a = put_bytes(out, at, b"1e");
-    put_decimal(out, a, n - 58)
+    write!(out, "1e{}", n - 58)
 }
 
 // The rule of a power of ten across the field, and its label beside it.
-fn put_height(out: &mut [u8], at: usize, v: View, n: u64) -> usize {
-    if n > v.high {
-        return at;
-    }
-    if n > 1000 {
-        return at;
+fn put_height<W: fmt::Write>(out: &mut W, v: View, n: u64) -> fmt::Result {
+    if (n > v.high) | (n > 1000) {
+        return Ok(());
     }
     let y = y_of(v, 1000 * n);
-    let a = put_path(out, at, b"grid");
-    let b = put_bytes(out, a, b"M90.00,");
-    let c = put_hundredths(out, b, y);
-    let d = put_bytes(out, c, b"H870.00\"/>\n");
-    let e = put_text(out, d, 8400, y + 400, b"end");
-    let f = put_power(out, e, n);
-    put_bytes(out, f, b"</text>\n")
+    put_path(out, "grid")?;
+    write!(out, "M90.00,{}H870.00\"/>\n", Hundredths(y))?;
+    put_text(out, 8400, y + 400, "end")?;
+    put_power(out, n)?;
+    write!(out, "</text>\n")
 }
 
 // Every power of ten, or every second, third and so on where they are many.
-pub fn put_heights(out: &mut [u8], at: usize, v: View) -> usize {
-    let mut next = at;
+pub fn put_heights<W: fmt::Write>(out: &mut W, v: View) -> fmt::Result {
     let mut n = v.low;
     let step = height_step(v);
-    for k in 0..RULES {
-        next = put_height(out, next, v, n);
-        n = std::num::wrapping_add_u64(n, step);
+    for _ in 0..RULES {
+        put_height(out, v, n)?;
+        n = n.wrapping_add(step);
     }
-    next
+    Ok(())
 }
 
 fn height_step(v: View) -> u64 {
-    if v.high < v.low {
-        return 1;
-    }
-    (v.high - v.low) / RULES + 1
+    v.high.saturating_sub(v.low) / RULES + 1
 }
 
 // The label of a number of frames under the field, and a short rule there.
-fn put_frames(out: &mut [u8], at: usize, v: View, n: u64) -> usize {
+fn put_frames<W: fmt::Write>(out: &mut W, v: View, n: u64) -> fmt::Result {
     if n > v.frames {
-        return at;
+        return Ok(());
     }
     let x = x_of(v, n);
-    let a = put_path(out, at, b"axis");
-    let b = put_bytes(out, a, b"M");
-    let c = put_hundredths(out, b, x);
-    let d = put_bytes(out, c, b",440.00v6\"/>\n");
-    let e = put_text(out, d, x, 46200, b"middle");
-    let f = put_decimal(out, e, n);
-    put_bytes(out, f, b"</text>\n")
+    put_path(out, "axis")?;
+    write!(out, "M{},440.00v6\"/>\n", Hundredths(x))?;
+    put_text(out, x, 46200, "middle")?;
+    write!(out, "{n}</text>\n")
 }
 
 // A power of ten of which there are at most nine in n, of at most 10^19.
 fn round_step(n: u64) -> u64 {
     let mut step: u64 = 1;
-    for k in 0..TENS {
+    for _ in 0..TENS {
         step = larger(step, n);
     }
     step
@@ -88,10 +74,7 @@ fn larger(step: u64, n: u64) -> u64 {
     if n / step <= 9 {
         return step;
     }
-    if step > 1000000000000000000 {
-        return step;
-    }
-    10 * step
+    step.checked_mul(10).unwrap_or(step)
 }
 
 // Half or a fifth of the step, where there are few of it in n.
@@ -99,32 +82,29 @@ fn finer(step: u64, n: u64) -> u64 {
     if step < 10 {
         return step;
     }
-    if n / step < 2 {
-        return step / 5;
+    match n / step {
+        0 | 1 => step / 5,
+        2 | 3 => step / 2,
+        _ => step,
     }
-    if n / step < 4 {
-        return step / 2;
-    }
-    step
 }
 
-pub fn put_counts(out: &mut [u8], at: usize, v: View) -> usize {
-    let mut next = put_frames(out, at, v, 0);
-    let mut n: u64 = 0;
+pub fn put_counts<W: fmt::Write>(out: &mut W, v: View) -> fmt::Result {
     let step = finer(round_step(v.frames), v.frames);
-    for k in 0..RULES {
-        n = tally::plus(n, step);
-        next = put_frames(out, next, v, n);
+    let mut n: u64 = 0;
+    put_frames(out, v, n)?;
+    for _ in 0..RULES {
+        n = n.saturating_add(step);
+        put_frames(out, v, n)?;
     }
-    next
+    Ok(())
 }
 
 // What the axes count.
-pub fn put_names(out: &mut [u8], at: usize) -> usize {
-    let a = put_label(out, at, 48000, 48600, b"middle", b"output frames");
-    put_bytes(
+pub fn put_names<W: fmt::Write>(out: &mut W) -> fmt::Result {
+    put_label(out, 48000, 48600, "middle", "output frames")?;
+    write!(
         out,
-        a,
-        b"<text transform=\"translate(24,250) rotate(-90)\" text-anchor=\"middle\">distance in samples</text>\n",
+        "<text transform=\"translate(24,250) rotate(-90)\" text-anchor=\"middle\">distance in samples</text>\n"
     )
 }

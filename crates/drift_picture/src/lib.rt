@@ -9,5 +9,5 @@ mod pen;
 mod picture;
 mod view;
 
-pub use chart::{Chart, ROOM, finished, new_chart, with_block};
+pub use chart::{Chart, Point};
 pub use picture::put_picture;

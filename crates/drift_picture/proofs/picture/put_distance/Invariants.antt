@@ -1,9 +1,0 @@
--- `drift_picture::picture::put_distance` is safe and ends: each turn of its loop is one nearer to the last. The slices keep their lengths. Assumes nothing.
-use Rattle.std.proofs.Common.{◌≡◌, ◌-◌, length}
-use Rattle.drift_picture.proofs.picture.put_distance.Given as goal
-
-abbrev pub invariant-loop-k : goal.invariant-loop-k
-invariant-loop-k l = (length l.out ≡ length l.initial.out)
-
-abbrev pub decreases-loop-k : goal.decreases-loop-k
-decreases-loop-k l = l.count - l.k
