@@ -2,7 +2,7 @@
 use crate::files::Log;
 use crate::page::{Page, with_told};
 use crate::progress::{Clock, ticked};
-use drift_picture::{Chart, with_block};
+use drift_picture::Chart;
 use log_parts::Walk;
 use log_records::{Read, read_record};
 use sheets::take_record;
@@ -20,7 +20,6 @@ pub struct Seen {
 #[derive(Clone, Copy)]
 pub struct Book {
     pub page: Page,
-    pub chart: Chart,
     pub clock: Clock,
     pub seen: Seen,
 }
@@ -68,7 +67,7 @@ fn with_call(
     w: Walk,
     kind: u8,
     payload: &[u8],
-    points: &mut [u64],
+    chart: &mut Option<Chart>,
 ) -> Book {
     let before = b.page;
     let turn = take_record(before.sheet, kind, payload);
@@ -80,9 +79,9 @@ fn with_call(
     let mut c = b;
     c.page = page;
     if turn.reads & (kind == 3) {
-        let chart = with_block(b.chart, sheet, points);
-        c.chart = chart;
-        return c;
+        if let Some(drawn) = chart {
+            drawn.add_block(sheet);
+        }
     }
     c
 }
@@ -97,7 +96,7 @@ fn with_payload(
     record: &[u8],
     from: usize,
     n: usize,
-    points: &mut [u64],
+    chart: &mut Option<Chart>,
 ) -> Book {
     if from > record.len() {
         return b;
@@ -105,7 +104,7 @@ fn with_payload(
     if n > record.len() - from {
         return b;
     }
-    with_call(sys, b, log, w, kind, &record[from..from + n], points)
+    with_call(sys, b, log, w, kind, &record[from..from + n], chart)
 }
 
 // The record that these bytes are, at the walk's place, and what is skipped in front of it.
@@ -115,7 +114,7 @@ pub fn with_record(
     log: Log,
     w: Walk,
     record: &[u8],
-    points: &mut [u64],
+    chart: &mut Option<Chart>,
 ) -> Book {
     let mut seen = counted(b.seen, w);
     seen.records = plus(seen.records, 1);
@@ -123,7 +122,7 @@ pub fn with_record(
     c.seen = seen;
     match read_record(record, 0) {
         Read::Record(kind, from, n, _) => with_payload(
-            sys, c, log, w, kind, record, from, n, points,
+            sys, c, log, w, kind, record, from, n, chart,
         ),
         Read::None => c,
     }

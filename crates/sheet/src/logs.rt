@@ -74,7 +74,7 @@ fn with_log(
     b: Book,
     word: usize,
     buf: &mut [u8; 65536],
-    points: &mut [u64],
+    chart: &mut Option<Chart>,
 ) -> Book {
     let page = b.page;
     let mut c = b;
@@ -85,7 +85,7 @@ fn with_log(
     }
     c.page = turned_over(page);
     c.seen = nothing_seen();
-    let r = turns(sys, first_run(c), log, buf, points);
+    let r = turns(sys, first_run(c), log, buf, chart);
     close_log(sys, log);
     with_log_end(sys, r, log)
 }
@@ -97,11 +97,11 @@ fn with_word(
     w: Words,
     at: usize,
     buf: &mut [u8; 65536],
-    points: &mut [u64],
+    chart: &mut Option<Chart>,
 ) -> Book {
     let p = b.page;
     if p.good & is_log(sys, w, at) {
-        return with_log(sys, b, at, buf, points);
+        return with_log(sys, b, at, buf, chart);
     }
     b
 }
@@ -111,11 +111,11 @@ fn all_logs(
     w: Words,
     first: Book,
     buf: &mut [u8; 65536],
-    points: &mut [u64],
+    chart: &mut Option<Chart>,
 ) -> Book {
     let mut b = first;
     for at in 1..sys.arg_count() {
-        b = with_word(sys, b, w, at, buf, points);
+        b = with_word(sys, b, w, at, buf, chart);
     }
     b
 }
@@ -136,15 +136,14 @@ fn with_total(sys: &mut System, p: Page) -> Page {
 }
 
 // Reads every log, and prints the sheet.
-pub fn read_logs(sys: &mut System, w: Words, chart: Chart, points: &mut [u64]) -> Book {
+pub fn read_logs(sys: &mut System, w: Words, chart: &mut Option<Chart>) -> Book {
     let mut buf = io::large_buffer();
     let first = Book {
         page: new_page(),
-        chart,
         clock: clock_now(sys),
         seen: nothing_seen(),
     };
-    let b = all_logs(sys, w, first, &mut buf, points);
+    let b = all_logs(sys, w, first, &mut buf, chart);
     let page = with_total(sys, b.page);
     let mut c = b;
     c.page = page;

@@ -13,6 +13,7 @@ mod run;
 mod say;
 mod words;
 
+use drift_picture::Chart;
 use system::System;
 use words::Words;
 
@@ -88,18 +89,23 @@ picture is a log, standard output or the --status file: then no file is written.
 
 // Reads the logs and draws the picture, where one is asked for; whether all is well.
 fn is_well(sys: &mut System, w: Words) -> bool {
-    let mut points = [0u64; drift_picture::ROOM];
-    let b = logs::read_logs(sys, w, drift_picture::new_chart(w.picture > 0), &mut points);
+    let mut chart = if w.picture > 0 {
+        Some(Chart::new())
+    } else {
+        None
+    };
+    let b = logs::read_logs(sys, w, &mut chart);
     let page = b.page;
-    let chart = b.chart;
     let sheet = page.sheet;
     let total = sheet.total;
     let well = page.good & page.whole & page.inside;
-    if w.picture == 0 {
-        return well;
+    match &mut chart {
+        None => well,
+        Some(c) => {
+            let drawn = picture::draw(sys, w.picture, w.logs, total, c);
+            well & drawn
+        }
     }
-    let drawn = picture::draw(sys, w.picture, w.logs, total, chart, &mut points);
-    well & drawn
 }
 
 // What the words ask for, and the status that comes of it.

@@ -1,8 +1,8 @@
 // The picture's file.
 use crate::files::open_out;
 use crate::say::say_word;
-use drift_picture::{Chart, finished, put_picture};
-use printer::bytes_of;
+use bounded::Text;
+use drift_picture::{Chart, put_picture};
 use sheets::Total;
 use system::System;
 
@@ -21,23 +21,16 @@ fn is_put(sys: &mut System, fd: i32, text: &[u8]) -> bool {
 }
 
 // Writes the picture into the file that the word at the place `word` names. Where that fails, it is told.
-pub fn draw(
-    sys: &mut System,
-    word: usize,
-    logs: usize,
-    t: Total,
-    c: Chart,
-    points: &mut [u64],
-) -> bool {
-    let d = finished(c, points);
-    let mut text = io::large_buffer();
-    let n = put_picture(&mut text, logs, t, points, d.count);
-    let k = bytes_of(&text, n);
+pub fn draw(sys: &mut System, word: usize, logs: usize, t: Total, chart: &mut Chart) -> bool {
+    chart.finish();
+    // A picture of 1,024 points is shorter than that.
+    let mut text = Text::<65536>::new();
+    let _ = put_picture(&mut text, logs, t, chart.points());
     let fd = open_out(sys, word);
     let done = if fd < 0 {
         false
     } else {
-        is_put(sys, fd, &text[..k])
+        is_put(sys, fd, text.as_bytes())
     };
     if !done {
         say_word(sys, b"sheet: the picture ", word, b" was not written\n");

@@ -6,6 +6,7 @@ ghost use Rattle.log_parts.specs.Turn.{Inside, Follows, Turned};
 use crate::book::{Book, with_record, with_skipped, with_tick};
 use crate::files::Log;
 use crate::say::{say_count, say_word};
+use drift_picture::Chart;
 use log_parts::{Part, Walk, after, more, passed};
 use log_salvage::{Stretch, next_stretch};
 use system::System;
@@ -85,7 +86,7 @@ fn ended(r: Run) -> Run
 }
 
 // One stretch, or more of the log. Only this crate calls this function.
-fn turn(sys: &mut System, r: Run, log: Log, buf: &mut [u8], points: &mut [u64]) -> Run
+fn turn(sys: &mut System, r: Run, log: Log, buf: &mut [u8], chart: &mut Option<Chart>) -> Run
     requires { Inside r.part buf.old × (71 ≤ length buf.old) }
     ensures inside { Inside result.part buf.new }
     ensures turned { Turned (stretch_at (take r.part.end buf.old) r.part.at r.part.last) r.walk r.part buf.old result.walk result.part buf.new }
@@ -99,7 +100,7 @@ fn turn(sys: &mut System, r: Run, log: Log, buf: &mut [u8], points: &mut [u64]) 
     match s {
         Stretch::Kept(_, n) => {
             let next = passed(part, n);
-            let book = with_record(sys, book, log, walk, &buf[at..at + n], points);
+            let book = with_record(sys, book, log, walk, &buf[at..at + n], chart);
             Run {
                 walk: after(walk, s),
                 part: next,
@@ -129,13 +130,19 @@ fn is_going(r: Run) -> bool {
 }
 
 // Nothing says that the log ends, so the turns are counted down from a number that no log uses up.
-pub fn turns(sys: &mut System, first: Run, log: Log, buf: &mut [u8], points: &mut [u64]) -> Run
+pub fn turns(
+    sys: &mut System,
+    first: Run,
+    log: Log,
+    buf: &mut [u8],
+    chart: &mut Option<Chart>,
+) -> Run
     requires { Inside first.part buf.old × (71 ≤ length buf.old) }
 {
     let mut r = first;
     let mut left = u64::MAX;
     while left > 0 && is_going(r) {
-        r = turn(sys, r, log, buf, points);
+        r = turn(sys, r, log, buf, chart);
         left -= 1;
     }
     r
