@@ -84,6 +84,5 @@ pub fn load_all(
 pub fn zero_all(work: &mut [f64])
     ensures { work.new ≡ replicate (length work.old) zero_f }
 {
-    let n = work.len();
-    channel::zero_from(work, 0, n);
+    work.fill(0.0);
 }

@@ -5,7 +5,7 @@
 ghost use Rattle.std.specs.Prelude.{◌≡◌, length};
 
 use commands::{begin, serve};
-use printer::{bytes_of, put_byte};
+use printer::{front_of, put_byte};
 use system::{OUTPUT, System};
 
 // The answer of so many bytes with its newline, all of it written. False where there is no answer since
@@ -15,7 +15,7 @@ fn written(sys: &mut System, out: &mut [u8], end: usize) -> bool {
         return false;
     }
     let after = put_byte(out, end, 10);
-    let n = bytes_of(out, after);
+    let n = front_of(out, after);
     sys.write_all(OUTPUT, &out[..n])
 }
 

@@ -1,4 +1,3 @@
 -- Laws of one channel's share. Assumes nothing.
-pub mod Pasted
 pub mod Switched
 pub mod Moves

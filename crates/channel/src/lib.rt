@@ -13,13 +13,12 @@ ghost use Rattle.channel.specs.Moves.{moved, loaded};
 pub use mask::{is_on, mask_fits};
 
 // The l2 samples from fill on move to the front: no test of the mask.
+#[tactic(auto, unfolding(crate::specs::Moves::moved))]
 pub fn move_front(work: &mut [f64], fill: usize, l2: usize)
     requires { fill + l2 ≤ length work.old }
     ensures { work.new ≡ moved fill l2 work.old }
 {
-    for k in 0..l2 {
-        work[k] = work[fill + k];
-    }
+    work.copy_within(fill..fill + l2, 0);
 }
 
 // The first n samples of `from` go to the place `at` and those after it.
@@ -28,9 +27,7 @@ fn copy_in(work: &mut [f64], at: usize, from: &[f64], n: usize)
     requires n_in_bounds_2 { n ≤ length from.now }
     ensures { work.new ≡ paste work.old at from.now n }
 {
-    for k in 0..n {
-        work[at + k] = from[k];
-    }
+    work[at..at + n].copy_from_slice(&from[..n]);
 }
 
 // Zeros go to the place `at` and those after it, n of them.
@@ -38,9 +35,7 @@ pub fn zero_from(work: &mut [f64], at: usize, n: usize)
     requires { at + n ≤ length work.old }
     ensures { work.new ≡ paste work.old at (replicate n zero_f) n }
 {
-    for k in 0..n {
-        work[at + k] = 0.0;
-    }
+    work[at..at + n].fill(0.0);
 }
 
 // The read frames go behind the l2 samples at the front, then zeros up to the needed input.

@@ -1,6 +1,6 @@
 // How an answer is put into a buffer, a space before each word but the first.
 use crate::said::{Head, Said};
-use printer::{put_area, put_bits, put_byte, put_bytes, put_decimal, samples_of};
+use printer::{front_of, put_area, put_bits, put_byte, put_bytes, put_decimal};
 
 // The first word, at the start of the buffer.
 fn put_head(out: &mut [u8], head: Head) -> usize {
@@ -20,7 +20,7 @@ fn put_below(out: &mut [u8], at: usize, n: u64) -> usize {
 
 // An area's first samples.
 fn put_front(out: &mut [u8], at: usize, area: &[f64], n: usize) -> usize {
-    let k = samples_of(area, n);
+    let k = front_of(area, n);
     put_area(out, at, &area[..k])
 }
 

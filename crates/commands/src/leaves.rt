@@ -2,7 +2,7 @@
 use crate::said::{Said, float, joined, ok, refused, said_of, signed, whole};
 use error::Refusal;
 use interpolation::Point;
-use printer::samples_of;
+use printer::front_of;
 use script::values::{Values, count_at, float_at, number_at, window_at};
 
 fn kernel_of(l: u64, x: f64, ys: &[f64]) -> Result<f64, Refusal> {
@@ -18,7 +18,7 @@ fn kernel_of(l: u64, x: f64, ys: &[f64]) -> Result<f64, Refusal> {
 pub fn kernel(values: Values, input: &[f64]) -> Said {
     let l = number_at(values, 0);
     let x = float_at(values, 1);
-    let n = samples_of(input, count_at(values, 2));
+    let n = front_of(input, count_at(values, 2));
     said_of(kernel_of(l, x, &input[..n]))
 }
 
@@ -33,7 +33,7 @@ fn blend_of(points: u64, x: f64, ys: &[f64]) -> Result<f64, Refusal> {
 // The sinc-side blend of so many samples.
 pub fn blend(points: u64, values: Values, input: &[f64]) -> Said {
     let x = float_at(values, 0);
-    let n = samples_of(input, count_at(values, 1));
+    let n = front_of(input, count_at(values, 1));
     said_of(blend_of(points, x, &input[..n]))
 }
 

@@ -1,7 +1,7 @@
 // What the line and the log along the calls make of a line that was answered.
 use crate::record::{Change, Kept};
 use crate::said::Head;
-use printer::bytes_of;
+use printer::front_of;
 use script::bytes::MOST;
 use script::values::{Values, flag_at, float_at, number_at};
 use script::words::Command;
@@ -60,7 +60,7 @@ pub fn noted(
     let said = change.said;
     let head = said.head;
     let first = before.state;
-    let n = bytes_of(bytes, MOST);
+    let n = front_of(bytes, MOST);
     match head {
         Head::Ok => accepted(live, command, values, first, state.index, &mut bytes[n..]),
         _ => live,
@@ -69,6 +69,6 @@ pub fn noted(
 
 // The log, in digits.
 pub fn put_log(out: &mut [u8], live: Live, bytes: &[u8]) -> usize {
-    let n = bytes_of(bytes, MOST);
+    let n = front_of(bytes, MOST);
     sheet_words::put_log(out, live, &bytes[n..])
 }

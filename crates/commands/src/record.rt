@@ -5,7 +5,7 @@ use asynchro::Outcome;
 use asynchro_fast::PolynomialDegree;
 use error::Refusal;
 use kinds::Kind;
-use printer::samples_of;
+use printer::front_of;
 use process::Sizes;
 use script::values::{
     Values, blend_at, count_at, degree_at, flag_at, float_at, kind_in, number_at, side_at,
@@ -105,7 +105,7 @@ pub fn area_length(channels: usize, most: usize, l: usize) -> usize {
 fn zeroed(s: State, work: &mut [f64]) -> usize {
     let most = number_in(questions::input_frames_max(s));
     let l = state::points_in(s);
-    let n = samples_of(work, area_length(s.channels, most, l));
+    let n = front_of(work, area_length(s.channels, most, l));
     area::zero_all(&mut work[..n]);
     n
 }
@@ -185,8 +185,8 @@ pub fn steps(kept: Kept, values: Values) -> Change {
 
 // The first n samples of one area to another; how many there are.
 pub fn copied(from: &[f64], n: usize, to: &mut [f64]) -> usize {
-    let most = samples_of(from, n);
-    let len = samples_of(to, most);
+    let most = front_of(from, n);
+    let len = front_of(to, most);
     channel::load(to, 0, &from[..most], len, len);
     len
 }
@@ -226,7 +226,7 @@ pub fn chunk(kept: Kept, values: Values) -> Change {
 }
 
 pub fn reset(kept: Kept, work: &mut [f64]) -> Change {
-    let n = samples_of(work, kept.len);
+    let n = front_of(work, kept.len);
     change_of(kept, process::reset(kept.state, &mut work[..n]))
 }
 
@@ -263,10 +263,10 @@ pub fn block(
     work: &mut [f64],
     table: &[f64],
 ) -> Change {
-    let a = samples_of(input, count_at(values, 2));
-    let b = samples_of(output, count_at(values, 3));
-    let n = samples_of(work, kept.len);
-    let t = samples_of(table, table_for(kept));
+    let a = front_of(input, count_at(values, 2));
+    let b = front_of(output, count_at(values, 3));
+    let n = front_of(work, kept.len);
+    let t = front_of(table, table_for(kept));
     let outcome = process::process_into_buffer(
         kept.state,
         count_at(values, 0),

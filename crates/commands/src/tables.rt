@@ -1,13 +1,13 @@
 // The windows, and the table that is kept.
 use crate::record::{Change, Kept, area_length, copied, left};
 use crate::said::{Said, area, ok, refused};
-use printer::samples_of;
+use printer::front_of;
 use script::values::{Values, count_at, float_at, window_at};
 
 // A window, in the front of an area. One that is longer than the area is refused whatever is lent.
 pub fn window(values: Values, output: &mut [f64]) -> Said {
     let points = count_at(values, 0);
-    let n = samples_of(output, points);
+    let n = front_of(output, points);
     match window_points::make_window(points, window_at(values, 1), &mut output[..n]) {
         Ok(()) => area(ok(), n),
         Err(r) => refused(r),
@@ -26,7 +26,7 @@ fn made(kept: Kept, len: usize) -> Change {
 pub fn sincs(kept: Kept, values: Values, output: &mut [f64], table: &mut [f64]) -> Change {
     let points = count_at(values, 0);
     let factor = count_at(values, 1);
-    let n = samples_of(table, area_length(factor, points, 0));
+    let n = front_of(table, area_length(factor, points, 0));
     let cutoff = float_at(values, 2);
     let window = window_at(values, 3);
     match sincs::make_sincs(points, factor, cutoff, window, &mut table[..n]) {
@@ -43,9 +43,9 @@ pub fn set_table(
     output: &[f64],
     table: &mut [f64],
 ) -> Change {
-    let n = samples_of(table, count_at(values, 0));
-    let first = samples_of(input, n);
-    let more = samples_of(output, n - first);
+    let n = front_of(table, count_at(values, 0));
+    let first = front_of(input, n);
+    let more = front_of(output, n - first);
     channel::load(table, 0, &input[..first], first, first);
     channel::load(table, first, &output[..more], more, more);
     let mut then = kept;

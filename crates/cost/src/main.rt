@@ -8,7 +8,7 @@
 mod numbers;
 
 use error::Refusal;
-use printer::samples_of;
+use printer::front_of;
 use script::values::{Values, count_at, kind_in, number_at};
 use sizes::FixedAsync;
 use state::State;
@@ -29,7 +29,7 @@ fn sample(k: usize) -> f64 {
 
 // The first n samples of an area, or as many as there are.
 fn fill(area: &mut [f64], n: usize) {
-    let end = samples_of(area, n);
+    let end = front_of(area, n);
     for k in 0..end {
         area[k] = sample(k);
     }
@@ -127,10 +127,10 @@ fn run_on(
     output: &mut [f64],
     work: &mut [f64],
 ) {
-    let a = samples_of(table, table_length(s));
-    let b = samples_of(input, lent::work_length(s));
-    let c = samples_of(output, lent::area_length(s.channels, s.output));
-    let d = samples_of(work, lent::work_length(s));
+    let a = front_of(table, table_length(s));
+    let b = front_of(input, lent::work_length(s));
+    let c = front_of(output, lent::area_length(s.channels, s.output));
+    let d = front_of(work, lent::work_length(s));
     run_and_tell(
         sys,
         s,

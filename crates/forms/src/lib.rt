@@ -6,7 +6,7 @@ ghost use Rattle.std.specs.Prelude.{◌≡◌, length, get_or};
 ghost use Rattle.printer.specs.Put.{put_in, place_after};
 ghost use Rattle.forms.specs.Forms.{mark_text, taken_by, place_to, line_to};
 
-use printer::{bytes_of, put_byte, put_decimal};
+use printer::{front_of, put_byte, put_decimal};
 use system::System;
 use values::put_value;
 
@@ -57,6 +57,6 @@ pub fn put_form(line: &mut [u8], form: &[u8], numbers: &[u64]) -> usize
 pub fn write_form(sys: &mut System, fd: i32, form: &[u8], numbers: &[u64]) -> bool {
     let mut line = [0u8; 512];
     let n = put_form(&mut line, form, numbers);
-    let k = bytes_of(&line, n);
+    let k = front_of(&line, n);
     sys.write_all(fd, &line[..k])
 }

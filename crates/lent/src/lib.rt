@@ -8,7 +8,7 @@ ghost use Rattle.process.specs.Block.{block_of, block_left};
 ghost use Rattle.lent.specs.Lent.{area_length, work_length, lent_of};
 
 use asynchro::Outcome;
-use printer::samples_of;
+use printer::front_of;
 use process::Sizes;
 use samples::samples_in;
 use state::State;
@@ -66,9 +66,9 @@ pub fn run_block(
 ) -> Outcome<Sizes>
     ensures { block_left result output.new work.new ≡ lent_of s frames mask table.now input.now output.old work.old }
 {
-    let a = samples_of(input, area_length(s.channels, s.input));
-    let b = samples_of(output, area_length(s.channels, s.output));
-    let n = samples_of(work, work_length(s));
+    let a = front_of(input, area_length(s.channels, s.input));
+    let b = front_of(output, area_length(s.channels, s.output));
+    let n = front_of(work, work_length(s));
     run_on_zeros(
         s,
         frames,

@@ -5,7 +5,7 @@
 use log_records::{Read, read_record};
 use log_salvage::{Stretch, next_stretch};
 use log_writer::{Put, Refused, put_record};
-use printer::{bytes_of, put_byte, put_bytes, put_decimal};
+use printer::{front_of, put_byte, put_bytes, put_decimal};
 use script::values::{Values, count_at, number_at};
 use text::glyph_of;
 
@@ -26,7 +26,7 @@ fn put_digits(out: &mut [u8], at: usize, byte: u8) -> usize {
 
 // The digits of the bytes from one place up to another, as far as there are bytes.
 pub fn put_hexes(out: &mut [u8], at: usize, bytes: &[u8], from: usize, to: usize) -> usize {
-    let end = bytes_of(bytes, to);
+    let end = front_of(bytes, to);
     let mut p = at;
     for k in from..end {
         p = put_digits(out, p, bytes[k]);
@@ -57,8 +57,8 @@ fn put_record_of(out: &mut [u8], record: &[u8; 4096], n: usize) -> usize {
 pub fn logput(out: &mut [u8], values: Values, bytes: &[u8]) -> usize {
     let mut area = io::buffer();
     let kind = number_at(values, 0);
-    let n = bytes_of(bytes, count_at(values, 1));
-    let room = bytes_of(&area, count_at(values, 2));
+    let n = front_of(bytes, count_at(values, 1));
+    let room = front_of(&area, count_at(values, 2));
     match put_record(kind, &bytes[..n], &mut area[..room]) {
         Put::Done(len) => put_record_of(out, &area, len),
         Put::Not(r) => put_refused(out, r),
@@ -78,7 +78,7 @@ fn put_read(out: &mut [u8], log: &[u8], kind: u8, start: usize, n: usize, next: 
 
 // The record at a place.
 pub fn logread(out: &mut [u8], values: Values, bytes: &[u8]) -> usize {
-    let n = bytes_of(bytes, count_at(values, 1));
+    let n = front_of(bytes, count_at(values, 1));
     match read_record(&bytes[..n], count_at(values, 0)) {
         Read::Record(kind, start, len, next) => put_read(out, bytes, kind, start, len, next),
         Read::None => put_bytes(out, 0, b"none"),
@@ -151,7 +151,7 @@ fn put_walk(out: &mut [u8], at: usize, log: &[u8], listed: bool) -> usize {
 
 // What salvage lists, and then what it keeps.
 pub fn salvage(out: &mut [u8], values: Values, bytes: &[u8]) -> usize {
-    let n = bytes_of(bytes, count_at(values, 0));
+    let n = front_of(bytes, count_at(values, 0));
     let p1 = put_bytes(out, 0, b"ok ");
     let p2 = put_walk(out, p1, &bytes[..n], true);
     let p3 = put_byte(out, p2, 32);

@@ -1,7 +1,7 @@
 // Messages on standard error.
 use crate::lists::put_nth;
 use error::Refusal;
-use printer::bytes_of;
+use printer::front_of;
 use system::System;
 
 pub fn say(sys: &mut System, text: &[u8]) {
@@ -16,7 +16,7 @@ pub fn say_number(sys: &mut System, n: u64) {
 pub fn say_value(sys: &mut System, x: f64) {
     let mut line = [0u8; 128];
     let n = values::put_value(&mut line, 0, x);
-    let k = bytes_of(&line, n);
+    let k = front_of(&line, n);
     say(sys, &line[..k]);
 }
 
@@ -29,7 +29,7 @@ pub fn say_start(sys: &mut System) {
 pub fn write_nth(sys: &mut System, fd: i32, list: &[u8], mark: u8, n: usize) -> bool {
     let mut line = [0u8; 256];
     let at = put_nth(&mut line, list, mark, n);
-    let k = bytes_of(&line, at);
+    let k = front_of(&line, at);
     sys.write_all(fd, &line[..k])
 }
 

@@ -38,7 +38,7 @@ fn made(sys: &mut System, name: &[u8]) -> Opened {
 }
 
 fn act_from(sys: &mut System, act: Act, word: &[u8], from: usize) -> Opened {
-    let start = printer::bytes_of(word, from);
+    let start = printer::front_of(word, from);
     let name = &word[start..];
     match act {
         Act::Read => {
@@ -73,6 +73,6 @@ pub fn facts_in(sys: &mut System, p: Place, usual: i32) -> Facts {
     }
     let mut word = io::buffer();
     let n = sys.arg(p.at, &mut word);
-    let start = printer::bytes_of(&word[..n], p.from);
+    let start = printer::front_of(&word[..n], p.from);
     file_facts::facts_at(sys, &word[start..n])
 }

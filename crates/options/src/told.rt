@@ -2,7 +2,7 @@
 use crate::messages::write_nth;
 use crate::names::{BLENDS, STATUS, WINDOWS, number_of};
 use crate::options::Place;
-use printer::{bytes_of, put_byte};
+use printer::{front_of, put_byte};
 use system::System;
 
 // Whether the next word is left out, how many spaces stand before it, and whether all was written.
@@ -34,7 +34,7 @@ fn put_plain(line: &mut [u8], at: usize, word: &[u8]) -> usize {
 fn write_word(sys: &mut System, fd: i32, space: usize, word: &[u8]) -> bool {
     let mut line = [32u8; 4100];
     let n = put_plain(&mut line, space, word);
-    let k = bytes_of(&line, n);
+    let k = front_of(&line, n);
     sys.write_all(fd, &line[..k])
 }
 
@@ -94,6 +94,6 @@ pub fn write_window(sys: &mut System, fd: i32, n: u64) -> bool {
 pub fn write_file_name(sys: &mut System, fd: i32, p: Place) -> bool {
     let mut word = io::buffer();
     let n = sys.arg(p.at, &mut word);
-    let start = bytes_of(&word[..n], p.from);
+    let start = front_of(&word[..n], p.from);
     write_word(sys, fd, 0, &word[start..n])
 }

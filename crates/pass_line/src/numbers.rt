@@ -1,5 +1,5 @@
 // A double to four digits: 0.1250 from 0.001 up to 10000, beyond that 4.021e-8.
-use printer::{bytes_of, put_byte, put_bytes, put_decimal};
+use printer::{front_of, put_byte, put_bytes, put_decimal};
 
 // A size from 1 to 10 and its power of ten, 400 standing for none.
 #[derive(Clone, Copy)]
@@ -86,7 +86,7 @@ fn put_zeros(out: &mut [u8], at: usize, n: u64) -> usize {
 
 // The digits with a point behind the first k.
 fn put_parted(out: &mut [u8], at: usize, digits: &[u8], k: usize) -> usize {
-    let end = bytes_of(digits, k);
+    let end = front_of(digits, k);
     let point = put_bytes(out, at, &digits[..end]);
     let behind = put_byte(out, point, 46);
     put_bytes(out, behind, &digits[end..])

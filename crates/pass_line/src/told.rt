@@ -6,7 +6,7 @@ use crate::{Ended, PassLine};
 use big::Big;
 use lines::{End, Line, distance_of, is_inside};
 use position_text::{put_length, put_position, put_rounded_length, put_rounded_position};
-use printer::{bytes_of, put_bytes};
+use printer::{front_of, put_bytes};
 use system::System;
 
 // A name, and a position as a decimal and exact.
@@ -55,7 +55,7 @@ pub fn write_block(sys: &mut System, log: i32, form: &[u8], numbers: &[u64], p: 
     let front = forms::put_form(&mut text, form, numbers);
     let after = put_after(&mut text, front, p);
     let n = put_bytes(&mut text, after, b"\n");
-    let k = bytes_of(&text, n);
+    let k = front_of(&text, n);
     sys.write_all(log, &text[..k])
 }
 
@@ -76,7 +76,7 @@ fn write_line(sys: &mut System, log: i32, p: PassLine) -> bool {
     let inside = put_inside(&mut text, most, l);
     let end = put_end(&mut text, inside, p.ended);
     let n = put_bytes(&mut text, end, b"\n");
-    let k = bytes_of(&text, n);
+    let k = front_of(&text, n);
     sys.write_all(log, &text[..k])
 }
 
@@ -127,7 +127,7 @@ fn write_figures(
     let figures = put_figures(&mut text, named, x, rate, log);
     let said = put_bytes(&mut text, figures, more);
     let n = put_bytes(&mut text, said, b"\n");
-    let k = bytes_of(&text, n);
+    let k = front_of(&text, n);
     sys.write_all(fd, &text[..k])
 }
 
@@ -163,7 +163,7 @@ fn write_rounding(sys: &mut System, fd: i32, p: PassLine, rate: u64, log: bool) 
         b" (# blocks with a ramp pending, of # frames, left out)",
         &[p.ramp_blocks, p.ramp_frames],
     );
-    let k = bytes_of(&more, n);
+    let k = front_of(&more, n);
     write_figures(
         sys,
         fd,

@@ -5,7 +5,7 @@
 
 use log_calls::{put_block, put_setting, put_start};
 use log_writer::Put;
-use printer::bytes_of;
+use printer::front_of;
 use system::System;
 
 // Writes the record that was put at the front of the bytes.
@@ -13,7 +13,7 @@ fn is_written(sys: &mut System, fd: i32, put: Put, record: &[u8]) -> bool {
     let Put::Done(n) = put else {
         return false;
     };
-    let k = bytes_of(record, n);
+    let k = front_of(record, n);
     sys.write_all(fd, &record[..k])
 }
 

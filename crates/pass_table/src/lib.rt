@@ -3,7 +3,7 @@
 #![tactic(auto)]
 
 use options::{Options, say, say_refused, say_start};
-use printer::samples_of;
+use printer::front_of;
 use samples::least;
 use system::System;
 use windows::WindowFunction;
@@ -88,7 +88,7 @@ struct Got {
 
 // Reads on behind the entries that are there, as many as a read takes.
 fn read_part(sys: &mut System, fd: i32, table: &mut [f64], held: &mut [f64], g: Got) -> Got {
-    let at = samples_of(table, g.entries as usize);
+    let at = front_of(table, g.entries as usize);
     let n = least(65536, table.len() - at);
     let r = blocks::read_frames(sys, fd, &mut table[at..at + n], held, g.more, 1, n);
     Got {

@@ -1,5 +1,4 @@
 -- Laws that the proofs here share, and what a reader may ask: a number that was put is read back. Assumes nothing.
-pub mod Fronts
 pub mod Room
 pub mod Pastes
 pub mod Texts

@@ -5,8 +5,8 @@ use Prim.Native.Nat.{ℕ, suc, ◌+◌, ◌<◌, ◌≤◌}
 use native.Mathlib.Nat.{add_assoc}
 use native.Mathlib.Numerals.{add-one}
 use native.Mathlib.Omega.{arith}
-use lib.ListN.{length, get_or, set, take, drop, length-set}
-use lib.Seq.{paste, paste-zero, paste-suc, length-paste, take-paste, drop-paste, drop-drop, set_split, append_snoc}
+use lib.ListN.{length, set, take, drop}
+use lib.Seq.{paste, paste-zero, length-paste, take-paste, drop-paste, drop-drop, set_split, append_snoc}
 
 -- x is d with the first n bytes of s from the place at on
 pub record Pasted (d : List ℕ) (at : ℕ) (s x : List ℕ) (n : ℕ) : Type 0 where
@@ -15,14 +15,6 @@ pub record Pasted (d : List ℕ) (at : ℕ) (s x : List ℕ) (n : ℕ) : Type 0 
 
 pub pasted_none : (d : List ℕ) (at : ℕ) (s : List ℕ) → Pasted d at s d 0
 pasted_none d at s = record { long = refl; is = paste-zero d at s }
-
--- one byte more
-pub pasted_byte : (d : List ℕ) (at : ℕ) (s x : List ℕ) (k v : ℕ) → Pasted d at s x k → at + length s ≤ length d → k < length s
-    → v ≡ get_or s k 0 → Pasted d at s (set x (at + k) v) (k + 1)
-pasted_byte d at s x k v p h l e = record {
-  long = simp length-set p.long;
-  is = rw (p.is, e, add-one) (paste-suc d at s k 0 (omega arith) l);
-}
 
 -- a text of one byte is one store
 pub pasted_one : (d : List ℕ) (at v : ℕ) → at < length d → set d at v ≡ paste d at (v ∷ []) 1
@@ -44,6 +36,3 @@ pasted_part d at s x t y n m p h l k e f = record {
     behind =
         sym (drop-drop m (at + n) (paste d at s n)) ∙ ap (drop m) (drop-paste d at s n (omega arith) (omega arith))
         ∙ drop-drop m (at + n) d ∙ ap (λ (i : ℕ). drop i d) (add_assoc at n m)
-
-pub pasted_done : (d : List ℕ) (at : ℕ) (s x : List ℕ) (k n : ℕ) → Pasted d at s x k → k ≡ n → x ≡ paste d at s n
-pasted_done d at s x k n p e = p.is ∙ ap (λ (j : ℕ). paste d at s j) e

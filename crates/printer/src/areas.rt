@@ -11,8 +11,8 @@ fn put_samples(out: &mut [u8], at: usize, xs: &[f64])
     requires { at + 16 * length xs.now ≤ length out.old }
     ensures { out.new ≡ paste out.old at (samples_text xs.now) (16 * length xs.now) }
 {
-    for k in 0..xs.len() {
-        text::put_hex(out, at + 16 * k, text::bits_of(xs[k]));
+    for (k, x) in xs.iter().enumerate() {
+        text::put_hex(out, at + 16 * k, text::bits_of(*x));
     }
 }
 
@@ -20,7 +20,7 @@ pub fn put_area(out: &mut [u8], at: usize, xs: &[f64]) -> usize
     ensures place { result ≡ place_after (length out.old) at (length (area_text xs.now)) }
     ensures put { out.new ≡ put_in out.old at (area_text xs.now) }
 {
-    if xs.len() == 0 {
+    if xs.is_empty() {
         return put_byte(out, at, 45);
     }
     let n = 16 * xs.len();

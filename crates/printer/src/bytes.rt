@@ -7,20 +7,7 @@ ghost use Rattle.printer.specs.Put.{put_in, place_after};
 pub fn has_room(out: &[u8], at: usize, n: usize) -> bool
     ensures { result ≡ leb (at + n) (length out.now) }
 {
-    if at > out.len() {
-        return false;
-    }
-    n <= out.len() - at
-}
-
-// The bytes of the text from the place `at` on. Only this crate calls this function.
-fn put_all(out: &mut [u8], at: usize, text: &[u8])
-    requires { at + length text.now ≤ length out.old }
-    ensures { out.new ≡ paste out.old at text.now (length text.now) }
-{
-    for k in 0..text.len() {
-        out[at + k] = text[k];
-    }
+    at <= out.len() && n <= out.len() - at
 }
 
 pub fn put_bytes(out: &mut [u8], at: usize, text: &[u8]) -> usize
@@ -30,8 +17,9 @@ pub fn put_bytes(out: &mut [u8], at: usize, text: &[u8]) -> usize
     if !has_room(out, at, text.len()) {
         return out.len();
     }
-    put_all(out, at, text);
-    at + text.len()
+    let end = at + text.len();
+    out[at..end].copy_from_slice(text);
+    end
 }
 
 pub fn put_byte(out: &mut [u8], at: usize, byte: u8) -> usize

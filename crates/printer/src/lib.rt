@@ -10,5 +10,5 @@ mod numbers;
 
 pub use areas::put_area;
 pub use bytes::{put_byte, put_bytes};
-pub use front::{bytes_of, samples_of};
+pub use front::front_of;
 pub use numbers::{put_bits, put_decimal};

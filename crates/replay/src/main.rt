@@ -8,7 +8,7 @@ mod report;
 
 use commands::{Served, begin, serve};
 use expected::compare;
-use printer::bytes_of;
+use printer::front_of;
 use report::{Tally, none_yet, print, with};
 use system::System;
 
@@ -30,7 +30,7 @@ fn checked(sys: &mut System, s: Served, tally: Tally, buf: &mut [u8], out: &[u8]
             going: false,
         };
     }
-    let n = bytes_of(out, s.end);
+    let n = front_of(out, s.end);
     let from = s.input;
     let found = compare(sys, buf, from, &out[..n]);
     let kept = s.kept;

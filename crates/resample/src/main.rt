@@ -161,7 +161,7 @@ fn pass_on(sys: &mut System, o: Options, changes: &[u64]) -> bool {
         return false;
     }
     let mut area = [0.0; 262144];
-    let n = printer::samples_of(&area, pass_table::entries_of(o));
+    let n = printer::front_of(&area, pass_table::entries_of(o));
     pass_of(sys, s, o, changes, &mut area[..n])
 }
 

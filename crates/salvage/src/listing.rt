@@ -1,6 +1,6 @@
 // The listing on standard output, the records in their file, and what is told of them.
 use log_parts::Walk;
-use printer::{bytes_of, put_byte, put_bytes, put_decimal};
+use printer::{front_of, put_byte, put_bytes, put_decimal};
 use system::System;
 use tally::plus;
 
@@ -39,7 +39,7 @@ fn write_line(sys: &mut System, word: &[u8], start: u64, n: u64) -> bool {
     let c = put_byte(&mut line, b, 32);
     let d = put_decimal(&mut line, c, n);
     let e = put_byte(&mut line, d, 10);
-    let k = bytes_of(&line, e);
+    let k = front_of(&line, e);
     sys.write_all(system::OUTPUT, &line[..k])
 }
 

@@ -2,7 +2,7 @@
 use big::Big;
 use lines::{End, Line, distance_of, is_inside};
 use position_text::{put_length, put_position, put_rounded_length, put_rounded_position};
-use printer::{bytes_of, put_byte, put_bytes, put_decimal};
+use printer::{front_of, put_byte, put_bytes, put_decimal};
 use sheets::Total;
 use system::System;
 
@@ -123,7 +123,7 @@ fn put_end(out: &mut [u8], at: usize, end: End, place: u64, cut: bool) -> usize 
 // The text up to `end` and a line feed, by one write; whether it was written.
 fn is_written(sys: &mut System, text: &mut [u8], end: usize) -> bool {
     let behind = put_byte(text, end, 10);
-    let k = bytes_of(text, behind);
+    let k = front_of(text, behind);
     sys.write_all(system::OUTPUT, &text[..k])
 }
 

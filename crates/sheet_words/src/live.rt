@@ -5,7 +5,7 @@ use lines::{End, Line, add_block, start_line};
 use log_calls::{put_block, put_setting, put_start};
 use log_words::put_hexes;
 use log_writer::Put;
-use printer::{bytes_of, put_byte, put_bytes};
+use printer::{front_of, put_byte, put_bytes};
 
 // All in one row: 1 where there is a line; how many bytes the log has; 1 where a record has found no room,
 // with which the log has ended for good; the line's three counts; and the limbs of its exact and stored
@@ -150,7 +150,7 @@ fn with_start(v: Live, kind: u64, index: f64, log: &mut [u8]) -> Live {
     if is_full(v) {
         return v;
     }
-    let at = bytes_of(log, v[1] as usize);
+    let at = front_of(log, v[1] as usize);
     with(v, put_start(kind, index, &mut log[at..]))
 }
 
@@ -169,7 +169,7 @@ pub fn setting(v: Live, what: u64, value: u64, log: &mut [u8]) -> Live {
     if is_full(v) {
         return v;
     }
-    let at = bytes_of(log, v[1] as usize);
+    let at = front_of(log, v[1] as usize);
     with(v, put_setting(what, value, &mut log[at..]))
 }
 
@@ -202,7 +202,7 @@ pub fn block(
     if is_full(v) {
         return v;
     }
-    let at = bytes_of(log, v[1] as usize);
+    let at = front_of(log, v[1] as usize);
     with(v, put_block(output, input, t, d, index, &mut log[at..]))
 }
 
@@ -217,7 +217,7 @@ pub fn put_line(out: &mut [u8], v: Live) -> usize {
 
 // The log's bytes, two digits each.
 pub fn put_log(out: &mut [u8], v: Live, log: &[u8]) -> usize {
-    let n = bytes_of(log, v[1] as usize);
+    let n = front_of(log, v[1] as usize);
     let p = put_bytes(out, 0, b"ok ");
     if n == 0 {
         return put_byte(out, p, 45);

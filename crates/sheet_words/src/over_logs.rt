@@ -5,7 +5,7 @@ use lines::{End, Line};
 use log_records::{Read, read_record};
 use log_salvage::{Stretch, next_stretch};
 use log_words::behind;
-use printer::{bytes_of, put_byte, put_bytes};
+use printer::{front_of, put_byte, put_bytes};
 use script::values::{Values, count_at};
 use sheets::{Sheet, Told, Turn, end_log, new_sheet, take_record};
 
@@ -62,9 +62,9 @@ fn told(out: &mut [u8], w: Walk, turn: Turn, place: usize) -> Walk {
 
 // After a record whose payload has n bytes from a place on.
 fn judged(sheet: Sheet, log: &[u8], kind: u8, from: usize, n: usize) -> Turn {
-    let a = bytes_of(log, from);
+    let a = front_of(log, from);
     let rest = &log[a..];
-    let k = bytes_of(rest, n);
+    let k = front_of(rest, n);
     take_record(sheet, kind, &rest[..k])
 }
 
@@ -140,7 +140,7 @@ fn end_of(ends: &[f64], k: usize) -> usize {
 
 // The log number k, which begins where the one before it ends.
 fn put_number(out: &mut [u8], w: Walk, bytes: &[u8], ends: &[f64], from: usize, k: usize) -> Walk {
-    let to = bytes_of(bytes, end_of(ends, k));
+    let to = front_of(bytes, end_of(ends, k));
     if from <= to {
         return put_log(out, w, &bytes[from..to]);
     }

@@ -4,7 +4,7 @@ ghost use Rattle.sincs.specs.Table.{sincs_table};
 
 use crate::named::put_name;
 use crate::words::Words;
-use printer::{bytes_of, put_bytes};
+use printer::{front_of, put_bytes};
 use system::System;
 use table_sum::TableSum;
 use windows::WindowFunction;
@@ -60,7 +60,7 @@ fn write_line(sys: &mut System, w: Words, table: &[f64]) -> bool {
     ];
     let mut form = [0u8; 128];
     let n = put_line(&mut form, window, table_sum::sum_of(table));
-    let k = bytes_of(&form, n);
+    let k = front_of(&form, n);
     forms::write_form(sys, system::OUTPUT, &form[..k], &numbers)
 }
 

@@ -34,26 +34,17 @@ pub struct Block {
 pub fn plus(a: u64, b: u64) -> u64
     ensures { result ≡ capped (a + b) }
 {
-    if b <= u64::MAX - a { a + b } else { u64::MAX }
-}
-
-fn minus(a: u64, b: u64) -> u64
-    ensures { result ≡ a - b }
-{
-    if b <= a { a - b } else { 0 }
+    a.saturating_add(b)
 }
 
 // n*(n+1) of a block with a ramp. No block has more than 65,536 frames.
 fn ramp_of(n: u64, ramp: bool) -> u64
     ensures { result ≡ ramp_of n ramp }
 {
-    if ramp {
-        if n > 65536 {
-            return u64::MAX;
-        }
-        return n * (n + 1);
+    if !ramp {
+        return 0;
     }
-    0
+    if n > 65536 { u64::MAX } else { n * (n + 1) }
 }
 
 pub fn none_yet() -> Counts
@@ -79,14 +70,14 @@ pub fn counted(c: Counts, b: Block) -> Counts
     let from = b.from as u64;
     let to = b.to as u64;
     Counts {
-        blocks: plus(c.blocks, 1),
-        used: plus(c.used, b.input as u64),
-        given: plus(c.given, b.given as u64),
-        made: plus(c.made, output),
-        written: plus(c.written, minus(to, from)),
-        before: plus(c.before, from),
-        behind: plus(c.behind, minus(output, to)),
-        ramps: plus(c.ramps, ramp_of(output, b.ramp)),
+        blocks: c.blocks.saturating_add(1),
+        used: c.used.saturating_add(b.input as u64),
+        given: c.given.saturating_add(b.given as u64),
+        made: c.made.saturating_add(output),
+        written: c.written.saturating_add(to.saturating_sub(from)),
+        before: c.before.saturating_add(from),
+        behind: c.behind.saturating_add(output.saturating_sub(to)),
+        ramps: c.ramps.saturating_add(ramp_of(output, b.ramp)),
     }
 }
 
@@ -94,9 +85,6 @@ pub fn counted(c: Counts, b: Block) -> Counts
 pub fn bound(c: Counts) -> u64
     ensures { result ≡ bound_of c }
 {
-    let n = plus(c.made, c.blocks);
-    if n > u64::MAX / 512 {
-        return u64::MAX;
-    }
-    plus(512 * n, c.ramps)
+    let n = c.made.saturating_add(c.blocks);
+    n.saturating_mul(512).saturating_add(c.ramps)
 }

@@ -4,7 +4,7 @@
 ghost use Rattle.std.specs.Prelude.{◌*◌, ◌≤◌, length};
 
 use options::{say, say_number, say_start};
-use printer::bytes_of;
+use printer::front_of;
 use samples::least;
 use system::System;
 
@@ -74,7 +74,7 @@ fn write_some(sys: &mut System, fd: i32, bytes: &mut [u8], rest: Rest) -> Rest {
     let first = rest.tones;
     let n = least(bytes.len() / 16, as_count(frames));
     let tones = put_tones(bytes, n, first);
-    let k = bytes_of(bytes, 16 * n);
+    let k = front_of(bytes, 16 * n);
     let good = sys.write_all(fd, &bytes[..k]);
     Rest {
         frames: minus(frames, n as u64),

@@ -4,7 +4,7 @@ ghost use Rattle.samples.specs.Frames.{gathered_to};
 ghost use Rattle.samples.specs.Counts.{taken, up_to};
 ghost use Rattle.written.specs.Pieces.{Written};
 
-use printer::bytes_of;
+use printer::front_of;
 use samples::{gather, least, samples_in, takes};
 use system::System;
 
@@ -35,7 +35,7 @@ fn write_piece(
     let done = w.last;
     let want = least(bytes.len() / 8, most - done);
     gather(output, channels, share, done, bytes, want);
-    let n = bytes_of(bytes, 8 * want);
+    let n = front_of(bytes, 8 * want);
     Writing {
         first: w.first,
         last: done + want,

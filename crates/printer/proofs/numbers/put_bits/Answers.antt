@@ -1,7 +1,6 @@
 -- `printer::numbers::put_bits` meets its contract: the digits are put where the test says that there is room. Assumes nothing.
 use Rattle.text.specs.Digits.{digits_of}
 use Prim.Native.Nat.{◌+◌}
-use native.Mathlib.Omega.{arith}
 use lib.ListN.{length}
 use Rattle.printer.proofs.Room.{room_some, room_none}
 use Rattle.printer.proofs.Samples.{bits_fitted, bits_kept_out}
@@ -11,15 +10,6 @@ pub returns-then-not-has_room : goal.returns-then-not-has_room
 unfolding digits_of
 returns-then-not-has_room c = let a = c.args in let p = bits_kept_out a.out.now a.at a.x (room_none _ (a.at + 16) (length a.out.now) c.has_room.ensures c.if-not-has_room.true) in
     record { place = p.0; put = p.1 }
-
-pub put_hex-requires : goal.put_hex-requires
-put_hex-requires c = let a = c.args in
-    room_some _ (a.at + 16) (length a.out.now) c.has_room.ensures c.if-not-has_room.false
-
-pub overflow_add-result : goal.overflow_add-result
-overflow_add-result c = let a = c.args in
-    let h = room_some _ (a.at + 16) (length a.out.now) c.has_room.ensures c.if-not-has_room.false in
-    omega arith
 
 pub returns : goal.returns
 unfolding digits_of

@@ -1,2 +1,0 @@
--- What a pass has used and made: proofs.
-mod Sums
