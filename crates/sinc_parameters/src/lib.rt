@@ -1,6 +1,5 @@
 // The parameters of a sinc interpolation, and the setters that chain: each hands back the record with
-// one field changed. A setter of a field that is an enum puts the record together anew, since such a
-// field is not stored to by itself.
+// one field changed.
 #![tactic(auto)]
 
 ghost use Rattle.std.specs.Prelude.{◌≡◌};
@@ -10,7 +9,7 @@ use asynchro_sinc::SincInterpolationType;
 use windows::WindowFunction;
 
 // The relative cutoff frequency. The source has an `Option<f32>` here.
-#[derive(Clone, Copy)]
+#[derive(Clone, Copy, Debug, PartialEq)]
 pub enum Cutoff {
     // Left to `windows::calculate_cutoff`, by the length and the window.
     Auto,
@@ -19,7 +18,7 @@ pub enum Cutoff {
 }
 
 // What a sinc interpolation is made from.
-#[derive(Clone, Copy)]
+#[derive(Clone, Copy, Debug, PartialEq)]
 pub struct SincInterpolationParameters {
     // The number of points of the windowed sinc.
     pub sinc_len: usize,
@@ -48,13 +47,6 @@ impl SincInterpolationParameters {
         }
     }
 
-    // As `new` has them, at 256 points under the squared Blackman-Harris window.
-    pub fn default() -> Self
-        ensures { result ≡ default_of }
-    {
-        Self::new(256, WindowFunction::BlackmanHarris2)
-    }
-
     // Another length.
     pub fn sinc_len(mut self, sinc_len: usize) -> Self
         ensures { result ≡ with_sinc_len self sinc_len }
@@ -67,17 +59,7 @@ impl SincInterpolationParameters {
     pub fn window(mut self, window: WindowFunction) -> Self
         ensures { result ≡ with_window self window }
     {
-        let sinc_len = self.sinc_len;
-        let f_cutoff = self.f_cutoff;
-        let oversampling_factor = self.oversampling_factor;
-        let interpolation = self.interpolation;
-        self = SincInterpolationParameters {
-            sinc_len,
-            f_cutoff,
-            oversampling_factor,
-            interpolation,
-            window,
-        };
+        self.window = window;
         self
     }
 
@@ -85,17 +67,7 @@ impl SincInterpolationParameters {
     pub fn f_cutoff(mut self, f_cutoff: f32) -> Self
         ensures { result ≡ with_cutoff self f_cutoff }
     {
-        let sinc_len = self.sinc_len;
-        let oversampling_factor = self.oversampling_factor;
-        let interpolation = self.interpolation;
-        let window = self.window;
-        self = SincInterpolationParameters {
-            sinc_len,
-            f_cutoff: Cutoff::At(f_cutoff),
-            oversampling_factor,
-            interpolation,
-            window,
-        };
+        self.f_cutoff = Cutoff::At(f_cutoff);
         self
     }
 
@@ -111,17 +83,18 @@ impl SincInterpolationParameters {
     pub fn interpolation(mut self, interpolation: SincInterpolationType) -> Self
         ensures { result ≡ with_interpolation self interpolation }
     {
-        let sinc_len = self.sinc_len;
-        let f_cutoff = self.f_cutoff;
-        let oversampling_factor = self.oversampling_factor;
-        let window = self.window;
-        self = SincInterpolationParameters {
-            sinc_len,
-            f_cutoff,
-            oversampling_factor,
-            interpolation,
-            window,
-        };
+        self.interpolation = interpolation;
         self
+    }
+}
+
+// As `new` has them, at 256 points under the squared Blackman-Harris window.
+impl Default for SincInterpolationParameters {
+    ghost is_default = { λ p. p ≡ default_of };
+
+    fn default() -> Self
+        ensures { result ≡ default_of }
+    {
+        Self::new(256, WindowFunction::BlackmanHarris2)
     }
 }
