@@ -4,8 +4,8 @@
 ghost use Rattle.std.specs.Prelude.{◌≡◌};
 ghost use Rattle.table_sum.specs.Sum.{plus_entry, sum_of};
 
-// All entries' bits summed up, and all of these running sums summed up, both modulo 2^64.
-#[derive(Clone, Copy)]
+// All entries' bits summed up, and all of these running sums summed up, both modulo 2^64. Of no entry both are 0.
+#[derive(Clone, Copy, Debug, PartialEq, Eq, Default)]
 pub struct TableSum {
     pub first: u64,
     pub second: u64,
@@ -15,9 +15,8 @@ pub struct TableSum {
 fn plus_entry(sum: TableSum, entry: f64) -> TableSum
     ensures { result ≡ plus_entry sum entry }
 {
-    let bits = text::bits_of(entry);
-    let first = std::num::wrapping_add_u64(sum.first, bits);
-    let second = std::num::wrapping_add_u64(sum.second, first);
+    let first = sum.first.wrapping_add(text::bits_of(entry));
+    let second = sum.second.wrapping_add(first);
     TableSum { first, second }
 }
 
@@ -26,12 +25,9 @@ fn plus_entry(sum: TableSum, entry: f64) -> TableSum
 pub fn sum_of(table: &[f64]) -> TableSum
     ensures { result ≡ sum_of table.now }
 {
-    let mut sum = TableSum {
-        first: 0,
-        second: 0,
-    };
-    for j in 0..table.len() {
-        sum = plus_entry(sum, table[j]);
+    let mut sum = TableSum::default();
+    for entry in table {
+        sum = plus_entry(sum, *entry);
     }
     sum
 }

@@ -1,10 +1,7 @@
--- `table_sum::sum_of` meets its contract: each turn adds one entry more. Assumes nothing.
-use Rattle.std.proofs.Common.{◌-◌, ◌≤◌, length}
-use Rattle.table_sum.proofs.Sums.{Summed}
+-- `table_sum::sum_of`: the entries that are left, added to the sum so far, make the sum of all. Assumes nothing.
+use Rattle.std.proofs.Common.{◌≡◌, drop}
+use Rattle.table_sum.specs.Sum.{sum_from, sum_of}
 use Rattle.table_sum.proofs.sum_of.Given as goal
 
-abbrev pub invariant-loop-j : goal.invariant-loop-j
-invariant-loop-j l = (l.j ≤ length l.table) × Summed l.table l.sum l.j
-
-abbrev pub decreases-loop-j : goal.decreases-loop-j
-decreases-loop-j l = length l.table - l.j
+abbrev pub invariant-loop-entry : goal.invariant-loop-entry
+invariant-loop-entry l = sum_from l.sum (drop l.entry-index l.table) ≡ sum_of l.table
