@@ -6,7 +6,7 @@ ghost use Rattle.blocks.specs.Blocks.{riff_mark, held_to, left_in, fits, goes_on
 
 use crate::reading::{Piece, read_area, read_pieces};
 use samples::takes;
-use system::System;
+use system::{Fd, System};
 
 // Whole frames that were read; whether a further one stands in `held`; whether no whole frame is behind the
 // last one; the bytes of a broken frame at the end; whether the input starts as a WAV file does; whether a
@@ -57,7 +57,7 @@ fn is_riff(bytes: &[u8]) -> bool
 }
 
 // The first frame of the input into `held`.
-pub fn read_first(sys: &mut System, fd: i32, held: &mut [f64], channels: usize) -> Reading
+pub fn read_first(sys: &mut System, fd: Fd, held: &mut [f64], channels: usize) -> Reading
     ensures next_read { taken channels 1 (length held.old) ≡ true → NextRead channels held.old held.new result.held result.ended result.left }
     ensures held_unchanged { taken channels 1 (length held.old) ≡ false → (held.new ≡ held.old) × (result.held ≡ false) × (result.failed ≡ true) }
 {
@@ -104,7 +104,7 @@ fn reading_of(p: Piece, next: Piece, channels: usize) -> Reading
 // The held frame, those behind it, and the next one to hold.
 fn read_behind(
     sys: &mut System,
-    fd: i32,
+    fd: Fd,
     input: &mut [f64],
     held: &mut [f64],
     channels: usize,
@@ -124,7 +124,7 @@ fn read_behind(
 // frame stays held, and `ended` says that there is none.
 pub fn read_frames(
     sys: &mut System,
-    fd: i32,
+    fd: Fd,
     input: &mut [f64],
     held: &mut [f64],
     has_held: bool,

@@ -3,7 +3,7 @@ ghost use Rattle.std.specs.Prelude.{◌&&◌, not, ◌≡◌, ◌*◌, ◌<◌, 
 ghost use Rattle.blocks.specs.Blocks.{PieceRead, PiecesRead};
 
 use samples::{least, samples_in, spread};
-use system::System;
+use system::{Fd, System};
 
 // So many bytes have been read. `open` says that there may be more, `failed` that a read failed.
 #[derive(Clone, Copy)]
@@ -24,24 +24,22 @@ pub struct Piece {
 }
 
 // One read more, up to `want` bytes in all.
-fn read_more(sys: &mut System, fd: i32, bytes: &mut [u8], f: Filled, want: usize) -> Filled
+fn read_more(sys: &mut System, fd: Fd, bytes: &mut [u8], f: Filled, want: usize) -> Filled
     requires { (f.count ≤ want) × (want ≤ length bytes.old) }
     ensures { result.count ≤ want }
 {
     let at = f.count;
-    let got = sys.read(fd, &mut bytes[at..want]);
-    let n = got.count;
-    if n == 0 {
-        return Filled {
+    match sys.read(fd, &mut bytes[at..want]) {
+        Ok(n) => Filled {
+            count: at + n,
+            open: (n > 0) & (at + n < want),
+            failed: false,
+        },
+        Err(_) => Filled {
             count: at,
             open: false,
-            failed: got.failed,
-        };
-    }
-    Filled {
-        count: at + n,
-        open: at + n < want,
-        failed: false,
+            failed: true,
+        },
     }
 }
 
@@ -50,7 +48,7 @@ fn is_open(f: Filled) -> bool {
 }
 
 // Reads `want` bytes, or fewer where the input ends or a read fails.
-fn fill(sys: &mut System, fd: i32, bytes: &mut [u8], want: usize) -> Filled
+fn fill(sys: &mut System, fd: Fd, bytes: &mut [u8], want: usize) -> Filled
     requires { want ≤ length bytes.old }
     ensures { result.count ≤ want }
 {
@@ -70,7 +68,7 @@ fn fill(sys: &mut System, fd: i32, bytes: &mut [u8], want: usize) -> Filled
 // Behind `done` samples as many more as the buffer holds.
 fn read_piece(
     sys: &mut System,
-    fd: i32,
+    fd: Fd,
     bytes: &mut [u8],
     area: &mut [f64],
     channels: usize,
@@ -104,7 +102,7 @@ fn wants_more(p: Piece, most: usize) -> bool
 // turn reads one or more, or finds the end.
 pub fn read_pieces(
     sys: &mut System,
-    fd: i32,
+    fd: Fd,
     bytes: &mut [u8],
     area: &mut [f64],
     channels: usize,
@@ -133,7 +131,7 @@ pub fn read_pieces(
 // The same with a buffer of its own.
 pub fn read_area(
     sys: &mut System,
-    fd: i32,
+    fd: Fd,
     area: &mut [f64],
     channels: usize,
     share: usize,

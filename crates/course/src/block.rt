@@ -8,7 +8,7 @@ use cut::KeptFrames;
 use options::Files;
 use pass_line::{PassLine, Step};
 use state::State;
-use system::System;
+use system::{Fd, System};
 use tally::Block;
 use written::write_frames;
 
@@ -31,7 +31,7 @@ fn not_logged(sys: &mut System, p: Pass) -> Pass {
 }
 
 // The line of a block: s is the record before it, p the pass with it.
-fn log_block(sys: &mut System, log: i32, block: u64, s: State, p: Pass, index: f64) -> bool {
+fn log_block(sys: &mut System, log: Fd, block: u64, s: State, p: Pass, index: f64) -> bool {
     let c = p.counts;
     let numbers = [
         block,
@@ -133,15 +133,11 @@ pub fn accepted(
     let c = p.counts;
     let total = tally::plus(c.given, r.frames as u64);
     let k = kept_of(s, raw, c.used, p.ended, total);
-    if !write_frames(
-        sys,
-        files.output,
-        output,
-        s.channels,
-        s.output,
-        k.from,
-        k.to,
-    ) {
+    let written = match files.output {
+        Some(fd) => write_frames(sys, fd, output, s.channels, s.output, k.from, k.to),
+        None => false,
+    };
+    if !written {
         return half_written(sys, p, files);
     }
     let n = counted(p, s, index, r.frames, k);

@@ -3,7 +3,7 @@ use crate::pass::{Pass, Plan, Run, not_recorded, refused, run_of, stop_told};
 use asynchro::Outcome;
 use options::Files;
 use schedule::{Cursor, Entry, Next};
-use system::System;
+use system::{Fd, System};
 
 fn plan_line(kind: u64, block: u64, value: u64, reached: u64, cursor: Cursor) -> Plan {
     Plan {
@@ -31,10 +31,10 @@ pub fn no_plan() -> Plan {
 }
 
 // The next line of the plan, if there is a plan.
-pub fn next_line(sys: &mut System, fd: i32, bytes: &mut [u8], plan: Plan) -> Plan {
-    if fd < 0 {
+pub fn next_line(sys: &mut System, fd: Option<Fd>, bytes: &mut [u8], plan: Plan) -> Plan {
+    let Some(fd) = fd else {
         return plan;
-    }
+    };
     let before = plan.cursor;
     let step = schedule::next_entry(sys, fd, bytes, before);
     let next = step.next;

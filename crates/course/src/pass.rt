@@ -4,7 +4,7 @@ use options::{Files, say_refused, say_start};
 use pass_line::PassLine;
 use schedule::Cursor;
 use state::State;
-use system::System;
+use system::{Fd, System};
 use tally::Counts;
 
 // The next line of the plan: 1 sets the ratio, 2 ramps to it, 3 sets the mask, 0 is no line and 4 one that
@@ -31,7 +31,7 @@ pub struct Pass {
     pub started: bool,
     pub first_used: u64,
     pub first_index: f64,
-    pub second: i64,
+    pub second: Option<i64>,
     pub going: bool,
     pub whole: bool,
     pub good: bool,
@@ -81,7 +81,7 @@ pub fn tell(sys: &mut System, files: Files, form: &[u8], numbers: &[u64]) -> boo
 }
 
 // The floats that a refusal carries, for the log.
-fn log_carried(sys: &mut System, log: i32, carried: Carried) {
+fn log_carried(sys: &mut System, log: Fd, carried: Carried) {
     let values = carried.values;
     let numbers = [
         text::bits_of(values[0]),

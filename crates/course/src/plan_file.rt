@@ -2,7 +2,7 @@
 use crate::changes::{next_line, no_plan};
 use crate::pass::Plan;
 use options::say_start;
-use system::System;
+use system::{Fd, System};
 
 // The line read last, and the one before it.
 #[derive(Clone, Copy)]
@@ -47,9 +47,9 @@ fn judged(sys: &mut System, plan: Plan, last: u64) -> Look {
     }
 }
 
-fn look_on(sys: &mut System, fd: i32, bytes: &mut [u8], l: Look) -> Look {
+fn look_on(sys: &mut System, fd: Fd, bytes: &mut [u8], l: Look) -> Look {
     let before = l.plan;
-    let plan = next_line(sys, fd, bytes, before);
+    let plan = next_line(sys, Some(fd), bytes, before);
     judged(sys, plan, l.last)
 }
 
@@ -59,7 +59,7 @@ fn has_more(l: Look) -> bool {
 }
 
 // Whether every line of the plan is one; it is then read again from its start.
-fn is_plan(sys: &mut System, fd: i32, bytes: &mut [u8]) -> bool {
+fn is_plan(sys: &mut System, fd: Fd, bytes: &mut [u8]) -> bool {
     let mut l = look_on(
         sys,
         fd,
@@ -79,10 +79,10 @@ fn is_plan(sys: &mut System, fd: i32, bytes: &mut [u8]) -> bool {
 }
 
 // Whether there is no plan, or a good one that stands at its start again.
-pub fn plan_holds(sys: &mut System, fd: i32, bytes: &mut [u8]) -> bool {
-    if fd < 0 {
+pub fn plan_holds(sys: &mut System, plan: Option<Fd>, bytes: &mut [u8]) -> bool {
+    let Some(fd) = plan else {
         return true;
-    }
+    };
     if !is_plan(sys, fd, bytes) {
         return false;
     }

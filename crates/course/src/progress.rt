@@ -50,7 +50,7 @@ fn say_progress(sys: &mut System, p: Pass, files: Files, channels: usize) {
 }
 
 // The clock's second.
-pub fn second_now(sys: &mut System) -> i64 {
+pub fn second_now(sys: &mut System) -> Option<i64> {
     sys.second()
 }
 

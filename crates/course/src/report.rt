@@ -2,9 +2,9 @@
 use crate::pass::{Pass, tell};
 use options::{Files, Options, say, say_start};
 use state::State;
-use system::System;
+use system::{Fd, System};
 
-fn write_side(sys: &mut System, log: i32, fixed_out: bool) -> bool {
+fn write_side(sys: &mut System, log: Fd, fixed_out: bool) -> bool {
     if fixed_out {
         forms::write_form(sys, log, b" fixed out", &[])
     } else {
@@ -13,7 +13,7 @@ fn write_side(sys: &mut System, log: i32, fixed_out: bool) -> bool {
 }
 
 // A degree's name, seven bytes long, by its points: 1, 2, 4, 6 or 8.
-fn write_degree(sys: &mut System, log: i32, points: u64) -> bool {
+fn write_degree(sys: &mut System, log: Fd, points: u64) -> bool {
     let names = *b"nearestlinear cubic  quinticseptic ";
     if points > 8 {
         return false;
@@ -23,7 +23,7 @@ fn write_degree(sys: &mut System, log: i32, points: u64) -> bool {
 }
 
 // What a pass resamples by: a polynomial's degree, or a sinc's blend.
-fn write_kind(sys: &mut System, log: i32, o: Options) -> bool {
+fn write_kind(sys: &mut System, log: Fd, o: Options) -> bool {
     if o.has_sinc {
         let name = forms::write_form(sys, log, b"sinc ", &[]);
         return name & options::write_blend(sys, log, o.blend);
@@ -180,14 +180,21 @@ fn plan_reached(sys: &mut System, p: Pass, files: Files) -> bool {
 }
 
 // Closes a file of ours, and says whether that went well: what was written last may be lost only now.
-fn closed(sys: &mut System, fd: i32, what: &[u8]) -> bool {
-    if fd > 2 {
-        if sys.close(fd) < 0 {
+fn closed(sys: &mut System, fd: Fd, what: &[u8]) -> bool {
+    if fd.is_file() {
+        if sys.close(fd).is_err() {
             sys.fail(what);
             return false;
         }
     }
     true
+}
+
+fn closed_if(sys: &mut System, fd: Option<Fd>, what: &[u8]) -> bool {
+    match fd {
+        Some(fd) => closed(sys, fd, what),
+        None => true,
+    }
 }
 
 // How the pass ended, with its frames.
@@ -226,9 +233,9 @@ pub fn ended_well(sys: &mut System, p: Pass, o: Options, files: Files, changes: 
     let cut = tell_cut(sys, p, o, files);
     let totals = tell_totals(sys, p, files);
     let line = pass_line::tell_line(sys, files.log, files.log_file, p.line, o.rate);
-    let output = closed(sys, files.output, b"resample: closing the output");
+    let output = closed_if(sys, files.output, b"resample: closing the output");
     let log = closed(sys, files.log, b"resample: closing the log");
-    let passlog = closed(sys, files.passlog, b"resample: closing the pass log");
+    let passlog = closed_if(sys, files.passlog, b"resample: closing the pass log");
     let good = p.good & reached & cut & totals & line & output & log & passlog;
     tell_end(sys, p, good);
     good

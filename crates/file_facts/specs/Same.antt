@@ -1,15 +1,41 @@
 -- When two facts are of one file, and when they are of a regular one. Definitions only.
-use Rattle.std.specs.Prelude.{Bool, ◌&&◌, ◌||◌, not, eqb}
+use Rattle.std.specs.Prelude.{Bool, true, false, ◌&&◌, ◌||◌, not, eqb, Option, Some, None}
+use Rattle.file_facts.specs.declared.Kind.{Kind}
+use Rattle.file_facts.specs.declared.Kind.TheVariants.{CharacterDevice, BlockDevice, Regular, Other}
 use Rattle.file_facts.specs.declared.Facts.{Facts}
 
--- both are known, with one device and inode, and it is no character device (0o020000), which may serve twice
-unfoldable pub one_file : Facts → Facts → Bool
-one_file a b = a.known && b.known && eqb a.device b.device && eqb a.inode b.inode && not (eqb a.kind 8192)
+-- a terminal, /dev/null and their like, which may serve twice
+abbrev pub may_serve_twice : Kind → Bool
+may_serve_twice CharacterDevice = true
+may_serve_twice BlockDevice = false
+may_serve_twice Regular = false
+may_serve_twice Other = false
 
--- one file that keeps what is written: a regular one (0o100000), or a block device (0o060000)
-abbrev pub same_kept : Facts → Facts → Bool
-same_kept a b = one_file a b && (eqb a.kind 32768 || eqb a.kind 24576)
+-- a file that keeps what is written
+abbrev pub keeps : Kind → Bool
+keeps CharacterDevice = false
+keeps BlockDevice = true
+keeps Regular = true
+keeps Other = false
 
--- known, and of the kind 0o100000
-unfoldable pub regular : Facts → Bool
-regular a = a.known && eqb a.kind 32768
+abbrev pub is_regular_kind : Kind → Bool
+is_regular_kind CharacterDevice = false
+is_regular_kind BlockDevice = false
+is_regular_kind Regular = true
+is_regular_kind Other = false
+
+-- both are known, with one device and inode, and it is no character device, which may serve twice
+abbrev pub one_file : Option Facts → Option Facts → Bool
+one_file (Some a) (Some b) = eqb a.device b.device && eqb a.inode b.inode && not (may_serve_twice a.kind)
+one_file (Some a) None = false
+one_file None b = false
+
+-- one file that keeps what is written: a regular one, or a block device
+abbrev pub same_kept : Option Facts → Option Facts → Bool
+same_kept (Some a) b = one_file (Some a) b && keeps a.kind
+same_kept None b = false
+
+-- known, and a regular file
+abbrev pub regular : Option Facts → Bool
+regular (Some a) = is_regular_kind a.kind
+regular None = false

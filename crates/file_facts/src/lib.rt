@@ -3,70 +3,77 @@
 // No contract says what the system answers, so of `facts_of` and `facts_at` only safety is proved.
 #![tactic(auto)]
 
-mod asked;
 mod name;
 mod taken;
 
 ghost use Rattle.std.specs.Prelude.{◌≡◌};
 ghost use Rattle.file_facts.specs.Same.{one_file, same_kept, regular};
 
-use system::System;
+use system::{Fd, System};
+use taken::taken;
 
-// What kind of file it is, as the system counts: a character device (0o020000), a block device (0o060000), a
-// regular file (0o100000).
-const CHARACTER_DEVICE: u32 = 8192;
-
-const BLOCK_DEVICE: u32 = 24576;
-
-const REGULAR_FILE: u32 = 32768;
+// What kind of file it is.
+#[derive(Clone, Copy, PartialEq, Eq)]
+pub enum Kind {
+    CharacterDevice,
+    BlockDevice,
+    Regular,
+    Other,
+}
 
 #[derive(Clone, Copy)]
 pub struct Facts {
-    // Whether the system told of the file. Where it did not, the rest is 0.
-    pub known: bool,
     pub device: u64,
     pub inode: u64,
-    // The bits of the mode that say what kind of file it is.
-    pub kind: u32,
+    pub kind: Kind,
     // The size in bytes, 0 for a negative one.
     pub size: u64,
 }
 
-// What is known of the open file fd.
-pub fn facts_of(sys: &mut System, fd: i32) -> Facts {
-    asked::of_open(sys, fd, taken::blank())
+// What is known of the open file fd, if the system tells of it.
+pub fn facts_of(sys: &mut System, fd: Fd) -> Option<Facts> {
+    taken(sys.stat_open(fd))
 }
 
 // What is known of the file at path, or at the end of the links there. A path that is too long for
 // the system or has a 0 in it names no file.
-pub fn facts_at(sys: &mut System, path: &[u8]) -> Facts {
-    if name::is_path(path) {
-        let ended = name::ended(path);
-        asked::of_named(sys, &ended, taken::blank())
-    } else {
-        taken::nothing()
+pub fn facts_at(sys: &mut System, path: &[u8]) -> Option<Facts> {
+    if !name::is_path(path) {
+        return None;
     }
+    taken(sys.stat_named(&name::ended(path)))
 }
 
 // Whether the two are one file in which writing could change what is read. A character device, as a
 // terminal or /dev/null, may serve twice.
-pub fn same_file(a: Facts, b: Facts) -> bool
+pub fn same_file(a: Option<Facts>, b: Option<Facts>) -> bool
     ensures { result ≡ one_file a b }
 {
-    a.known & b.known & (a.device == b.device) & (a.inode == b.inode) & (a.kind != CHARACTER_DEVICE)
+    match (a, b) {
+        (Some(a), Some(b)) => {
+            (a.device == b.device) & (a.inode == b.inode) & !matches!(a.kind, Kind::CharacterDevice)
+        }
+        _ => false,
+    }
 }
 
 // Whether both are one file that writing changes: no pipe and no socket, which may be read and written.
-pub fn is_same(a: Facts, b: Facts) -> bool
+pub fn is_same(a: Option<Facts>, b: Option<Facts>) -> bool
     ensures { result ≡ same_kept a b }
 {
-    let kept = (a.kind == REGULAR_FILE) | (a.kind == BLOCK_DEVICE);
+    let Some(facts) = a else {
+        return false;
+    };
+    let kept = matches!(facts.kind, Kind::Regular | Kind::BlockDevice);
     same_file(a, b) & kept
 }
 
 // Whether it is a regular file.
-pub fn is_regular(a: Facts) -> bool
+pub fn is_regular(a: Option<Facts>) -> bool
     ensures { result ≡ regular a }
 {
-    a.known & (a.kind == REGULAR_FILE)
+    match a {
+        Some(a) => matches!(a.kind, Kind::Regular),
+        None => false,
+    }
 }

@@ -8,13 +8,7 @@ const LAST: usize = PATH_MAX - 1;
 
 // Whether the system can be handed all of path: it leaves room for a 0, and has none.
 pub fn is_path(path: &[u8]) -> bool {
-    let mut whole = path.len() < PATH_MAX;
-    let mut i = 0;
-    while i < path.len() {
-        whole = whole & (path[i] != 0);
-        i += 1;
-    }
-    whole
+    path.len() < PATH_MAX && !path.contains(&0)
 }
 
 // As much of path as leaves room for a 0, and then zeros.
@@ -22,14 +16,8 @@ pub fn ended(path: &[u8]) -> [u8; PATH_MAX]
     ensures { Ended result }
 {
     let mut ended = [0u8; PATH_MAX];
-    let mut i = 0;
-    while i < path.len() {
-        if i >= LAST {
-            break;
-        }
-        ended[i] = path[i];
-        i += 1;
-    }
+    let n = path.len().min(LAST);
+    ended[..n].copy_from_slice(&path[..n]);
     ended[LAST] = 0;
     ended
 }

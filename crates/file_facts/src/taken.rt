@@ -1,51 +1,38 @@
-// The system's record of a file, made empty and taken apart.
+// The system's record of a file, taken apart.
 ghost use Rattle.std.specs.Prelude.{◌≡◌};
-ghost use Rattle.file_facts.specs.Told.{at_least_zero, told, unknown};
+ghost use Rattle.file_facts.specs.Told.{at_least_zero, kind_of, told};
 
-use crate::Facts;
-use system::Record;
+use crate::{Facts, Kind};
+use system::{Failed, Record};
 
 // The bits of a mode that say what kind of file it is (0o170000).
 const KIND_BITS: u32 = 61440;
 
-// A record of zeros.
-pub fn blank() -> Record {
-    Record {
-        device: 0,
-        inode: 0,
-        mode: 0,
-        special: 0,
-        size: 0,
+// The kind, as the system counts: a character device (0o020000), a block device (0o060000), a regular file
+// (0o100000).
+fn kind_of(bits: u32) -> Kind
+    ensures { result ≡ kind_of bits }
+{
+    match bits {
+        8192 => Kind::CharacterDevice,
+        24576 => Kind::BlockDevice,
+        32768 => Kind::Regular,
+        _ => Kind::Other,
     }
 }
 
-// Nothing is known.
-pub fn nothing() -> Facts
-    ensures { result ≡ unknown }
+// What the record tells, where the call that asked for it succeeded.
+pub fn taken(about: Result<Record, Failed>) -> Option<Facts>
+    ensures { result ≡ told about }
 {
-    Facts {
-        known: false,
-        device: 0,
-        inode: 0,
-        kind: 0,
-        size: 0,
-    }
-}
-
-// What the record tells, where the call that filled it succeeded.
-pub fn taken(status: i32, about: Record) -> Facts
-    ensures { result ≡ told status about }
-{
-    if status == 0 {
-        Facts {
-            known: true,
+    match about {
+        Ok(about) => Some(Facts {
             device: about.device,
             inode: about.inode,
-            kind: about.mode & KIND_BITS,
+            kind: kind_of(about.mode & KIND_BITS),
             size: at_least_zero(about.size),
-        }
-    } else {
-        nothing()
+        }),
+        Err(_) => None,
     }
 }
 

@@ -7,7 +7,7 @@ ghost use Rattle.printer.specs.Put.{put_in, place_after};
 ghost use Rattle.forms.specs.Forms.{mark_text, taken_by, place_to, line_to};
 
 use printer::{front_of, put_byte, put_decimal};
-use system::System;
+use system::{Fd, System};
 use values::put_value;
 
 fn number_at(numbers: &[u64], k: usize) -> u64
@@ -54,7 +54,7 @@ pub fn put_form(line: &mut [u8], form: &[u8], numbers: &[u64]) -> usize
 }
 
 // Writes the form with its numbers, up to 512 bytes of it.
-pub fn write_form(sys: &mut System, fd: i32, form: &[u8], numbers: &[u64]) -> bool {
+pub fn write_form(sys: &mut System, fd: Fd, form: &[u8], numbers: &[u64]) -> bool {
     let mut line = [0u8; 512];
     let n = put_form(&mut line, form, numbers);
     let k = front_of(&line, n);

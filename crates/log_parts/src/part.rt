@@ -2,7 +2,7 @@
 ghost use Rattle.std.specs.Prelude.{◌≡◌, ◌+◌, ◌-◌, ◌<◌, ◌≤◌, length, take, drop};
 
 use printer::put_bytes;
-use system::System;
+use system::{Fd, System};
 
 // The bytes up to `end` were read, and those up to `at` are walked. `last` says that the log ends there, since
 // it does or since a read failed, as `failed` says.
@@ -37,7 +37,7 @@ fn move_front(buf: &mut [u8], at: usize, end: usize)
 }
 
 // The bytes that are not walked, at the front, and more of the log behind them. Only our own crates call this.
-pub fn more(sys: &mut System, p: Part, fd: i32, buf: &mut [u8]) -> Part
+pub fn more(sys: &mut System, p: Part, fd: Fd, buf: &mut [u8]) -> Part
     requires { (p.at ≤ p.end) × (p.end ≤ length buf.old) × (p.end - p.at < 71) × (71 ≤ length buf.old) }
     ensures at_value { (result.at ≡ 0) × (p.end - p.at ≤ result.end) × (result.end ≤ length buf.new) }
     ensures buf_after { take (p.end - p.at) buf.new ≡ drop p.at (take p.end buf.old) }
@@ -47,10 +47,11 @@ pub fn more(sys: &mut System, p: Part, fd: i32, buf: &mut [u8]) -> Part
     move_front(buf, at, end);
     let n = end - at;
     let got = sys.read(fd, &mut buf[n..]);
+    let count = got.unwrap_or(0);
     Part {
         at: 0,
-        end: n + got.count,
-        last: got.count == 0,
-        failed: got.failed,
+        end: n + count,
+        last: count == 0,
+        failed: got.is_err(),
     }
 }

@@ -6,7 +6,7 @@ use crate::names::LOG;
 use crate::options::{Options, Place};
 use crate::slots::has;
 use file_facts::{Facts, is_same};
-use system::System;
+use system::{Fd, System};
 
 const OUTPUT_NAMES: usize = 1;
 
@@ -55,7 +55,7 @@ fn role_of(p: Place, names: usize) -> usize {
 }
 
 // The stream that the log goes to where it has no file.
-pub fn log_stream(o: Options) -> i32 {
+pub fn log_stream(o: Options) -> Fd {
     if has(o.seen, LOG) {
         system::OUTPUT
     } else {
@@ -64,10 +64,10 @@ pub fn log_stream(o: Options) -> i32 {
 }
 
 // Whether the pass log is the output, the log or the file for the status; it is told.
-pub fn is_passlog_taken(sys: &mut System, o: Options, passlog: Facts) -> bool {
-    let output = facts_in(sys, o.output, system::OUTPUT);
-    let log = facts_in(sys, o.log, log_stream(o));
-    let status = facts_in(sys, o.status, -1);
+pub fn is_passlog_taken(sys: &mut System, o: Options, passlog: Option<Facts>) -> bool {
+    let output = facts_in(sys, o.output, Some(system::OUTPUT));
+    let log = facts_in(sys, o.log, Some(log_stream(o)));
+    let status = facts_in(sys, o.status, None);
     let a = is_told(
         sys,
         file_facts::same_file(passlog, output),
@@ -88,11 +88,11 @@ pub fn is_passlog_taken(sys: &mut System, o: Options, passlog: Facts) -> bool {
 fn has_passlog_clash(
     sys: &mut System,
     o: Options,
-    input: Facts,
-    plan: Facts,
-    table: Facts,
+    input: Option<Facts>,
+    plan: Option<Facts>,
+    table: Option<Facts>,
 ) -> bool {
-    let passlog = facts_in(sys, o.passlog, -1);
+    let passlog = facts_in(sys, o.passlog, None);
     let a = is_told(sys, is_same(passlog, input), PASSLOG_NAMES, IS_INPUT);
     let b = is_told(sys, is_same(passlog, plan), PASSLOG_NAMES, IS_PLAN);
     let c = is_told(sys, is_same(passlog, table), PASSLOG_NAMES, IS_TABLE);
@@ -101,9 +101,9 @@ fn has_passlog_clash(
 }
 
 // Whether the output, the log or the pass log is another file of the pass, before any is opened; it is told.
-pub fn has_clash(sys: &mut System, o: Options, input: Facts, plan: Facts, table: Facts) -> bool {
-    let output = facts_in(sys, o.output, system::OUTPUT);
-    let log = facts_in(sys, o.log, log_stream(o));
+pub fn has_clash(sys: &mut System, o: Options, input: Option<Facts>, plan: Option<Facts>, table: Option<Facts>) -> bool {
+    let output = facts_in(sys, o.output, Some(system::OUTPUT));
+    let log = facts_in(sys, o.log, Some(log_stream(o)));
     let by_output = role_of(o.output, OUTPUT_NAMES);
     let by_log = role_of(o.log, LOG_NAMES);
     let a = is_told(sys, is_same(output, input), by_output, IS_INPUT);
@@ -118,8 +118,8 @@ pub fn has_clash(sys: &mut System, o: Options, input: Facts, plan: Facts, table:
 }
 
 // Whether the log, which is open, is the output: two names of a file that was not there before.
-pub fn is_output(sys: &mut System, o: Options, log: i32) -> bool {
-    let output = facts_in(sys, o.output, system::OUTPUT);
+pub fn is_output(sys: &mut System, o: Options, log: Fd) -> bool {
+    let output = facts_in(sys, o.output, Some(system::OUTPUT));
     let facts = file_facts::facts_of(sys, log);
     is_told(
         sys,
@@ -131,12 +131,12 @@ pub fn is_output(sys: &mut System, o: Options, log: i32) -> bool {
 
 // Whether the file for the status is another file of the pass.
 pub fn is_status_taken(sys: &mut System, o: Options) -> bool {
-    let status = facts_in(sys, o.status, -1);
-    let a = is_same(status, facts_in(sys, o.input, system::INPUT));
-    let b = is_same(status, facts_in(sys, o.plan, -1));
-    let c = is_same(status, facts_in(sys, o.output, system::OUTPUT));
-    let d = is_same(status, facts_in(sys, o.log, log_stream(o)));
-    let e = is_same(status, facts_in(sys, o.table, -1));
-    let f = is_same(status, facts_in(sys, o.passlog, -1));
+    let status = facts_in(sys, o.status, None);
+    let a = is_same(status, facts_in(sys, o.input, Some(system::INPUT)));
+    let b = is_same(status, facts_in(sys, o.plan, None));
+    let c = is_same(status, facts_in(sys, o.output, Some(system::OUTPUT)));
+    let d = is_same(status, facts_in(sys, o.log, Some(log_stream(o))));
+    let e = is_same(status, facts_in(sys, o.table, None));
+    let f = is_same(status, facts_in(sys, o.passlog, None));
     a | b | c | d | e | f
 }

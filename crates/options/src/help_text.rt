@@ -1,8 +1,8 @@
 // What `--help` and `--version` print: one text each.
 // Whether each was written is the answer.
-use system::System;
+use system::{Fd, System};
 
-pub fn write_version(sys: &mut System, fd: i32) -> bool {
+pub fn write_version(sys: &mut System, fd: Fd) -> bool {
     sys.write_all(
         fd,
         b"resample 1.1, the asynchronous resampler of rubato 5.0.1\n",

@@ -2,7 +2,7 @@
 use crate::lists::put_nth;
 use error::Refusal;
 use printer::front_of;
-use system::System;
+use system::{Fd, System};
 
 pub fn say(sys: &mut System, text: &[u8]) {
     sys.write_all(system::ERROR, text);
@@ -26,7 +26,7 @@ pub fn say_start(sys: &mut System) {
 }
 
 // The text n of a list; whether it was written.
-pub fn write_nth(sys: &mut System, fd: i32, list: &[u8], mark: u8, n: usize) -> bool {
+pub fn write_nth(sys: &mut System, fd: Fd, list: &[u8], mark: u8, n: usize) -> bool {
     let mut line = [0u8; 256];
     let at = put_nth(&mut line, list, mark, n);
     let k = front_of(&line, at);

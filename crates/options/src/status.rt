@@ -15,6 +15,6 @@ pub fn write_status(sys: &mut System, o: Options, status: u64) {
     if is_status_taken(sys, o) {
         return;
     }
-    let opened = act_at(sys, Act::Write, place, -1);
+    let opened = act_at(sys, Act::Write, place, None);
     programs::put_status(sys, opened.fd, status);
 }

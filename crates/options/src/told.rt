@@ -3,7 +3,7 @@ use crate::messages::write_nth;
 use crate::names::{BLENDS, STATUS, WINDOWS, number_of};
 use crate::options::Place;
 use printer::{front_of, put_byte};
-use system::System;
+use system::{Fd, System};
 
 // Whether the next word is left out, how many spaces stand before it, and whether all was written.
 #[derive(Clone, Copy)]
@@ -31,7 +31,7 @@ fn put_plain(line: &mut [u8], at: usize, word: &[u8]) -> usize {
 }
 
 // The word, with a space before it where one stands there.
-fn write_word(sys: &mut System, fd: i32, space: usize, word: &[u8]) -> bool {
+fn write_word(sys: &mut System, fd: Fd, space: usize, word: &[u8]) -> bool {
     let mut line = [32u8; 4100];
     let n = put_plain(&mut line, space, word);
     let k = front_of(&line, n);
@@ -39,7 +39,7 @@ fn write_word(sys: &mut System, fd: i32, space: usize, word: &[u8]) -> bool {
 }
 
 // A word: --status is left out, with its value.
-fn tell_word(sys: &mut System, fd: i32, t: Telling, word: &[u8]) -> Telling {
+fn tell_word(sys: &mut System, fd: Fd, t: Telling, word: &[u8]) -> Telling {
     let n = word.len();
     let end = scan::find(word, b'=').unwrap_or(n);
     if number_of(&word[..end]) == STATUS {
@@ -56,7 +56,7 @@ fn tell_word(sys: &mut System, fd: i32, t: Telling, word: &[u8]) -> Telling {
     }
 }
 
-fn tell_next(sys: &mut System, fd: i32, t: Telling, at: usize) -> Telling {
+fn tell_next(sys: &mut System, fd: Fd, t: Telling, at: usize) -> Telling {
     if t.skip {
         return Telling {
             skip: false,
@@ -65,12 +65,12 @@ fn tell_next(sys: &mut System, fd: i32, t: Telling, at: usize) -> Telling {
         };
     }
     let mut word = io::buffer();
-    let n = sys.arg(at, &mut word);
+    let n = sys.arg(at, &mut word).unwrap_or(0);
     tell_word(sys, fd, t, &word[..n])
 }
 
 // All words but the program's name and `--status FILE`, parted by spaces; whether they were written.
-pub fn write_words(sys: &mut System, fd: i32) -> bool {
+pub fn write_words(sys: &mut System, fd: Fd) -> bool {
     let mut t = Telling {
         skip: false,
         space: 0,
@@ -83,17 +83,17 @@ pub fn write_words(sys: &mut System, fd: i32) -> bool {
 }
 
 // The names of a blend and of a window, and a file's name; whether each was written.
-pub fn write_blend(sys: &mut System, fd: i32, n: u64) -> bool {
+pub fn write_blend(sys: &mut System, fd: Fd, n: u64) -> bool {
     write_nth(sys, fd, &BLENDS, 32, n as usize)
 }
 
-pub fn write_window(sys: &mut System, fd: i32, n: u64) -> bool {
+pub fn write_window(sys: &mut System, fd: Fd, n: u64) -> bool {
     write_nth(sys, fd, &WINDOWS, 32, n as usize)
 }
 
-pub fn write_file_name(sys: &mut System, fd: i32, p: Place) -> bool {
+pub fn write_file_name(sys: &mut System, fd: Fd, p: Place) -> bool {
     let mut word = io::buffer();
-    let n = sys.arg(p.at, &mut word);
+    let n = sys.arg(p.at, &mut word).unwrap_or(0);
     let start = front_of(&word[..n], p.from);
     write_word(sys, fd, 0, &word[start..n])
 }

@@ -36,11 +36,8 @@ fn lacking(sys: &mut System, r: Reading, name: usize, line: usize) -> Reading {
     stopped(r)
 }
 
-// Whether a word can be no value: it is missing, too long, or begins with `--`.
-fn is_none(error: i32, word: &[u8]) -> bool {
-    if error != 0 {
-        return true;
-    }
+// Whether a word can be no value: it begins with `--`.
+fn is_none(word: &[u8]) -> bool {
     if word.len() < 2 {
         return false;
     }
@@ -50,9 +47,10 @@ fn is_none(error: i32, word: &[u8]) -> bool {
 fn read_one(sys: &mut System, r: Reading, name: usize) -> Reading {
     let mut word = io::buffer();
     let at = past(r.next, 1);
-    let n = sys.arg(at, &mut word);
-    let error = sys.errno();
-    if is_none(error, &word[..n]) {
+    let Ok(n) = sys.arg(at, &mut word) else {
+        return lacking(sys, r, name, LACKS_ONE);
+    };
+    if is_none(&word[..n]) {
         return lacking(sys, r, name, LACKS_ONE);
     }
     with_value(sys, given(r, name, 2), name, at, 0, &word[..n])
@@ -64,14 +62,12 @@ fn lacks(name: usize) -> usize {
 }
 
 // The second word, where there is a first one.
-fn read_second(sys: &mut System, r: Reading, name: usize, error: i32, first: &[u8]) -> Reading {
-    if error != 0 {
-        return lacking(sys, r, name, lacks(name));
-    }
+fn read_second(sys: &mut System, r: Reading, name: usize, first: &[u8]) -> Reading {
     let mut word = io::buffer();
-    let n = sys.arg(past(r.next, 2), &mut word);
-    let error = sys.errno();
-    if is_none(0, first) | is_none(error, &word[..n]) {
+    let Ok(n) = sys.arg(past(r.next, 2), &mut word) else {
+        return lacking(sys, r, name, lacks(name));
+    };
+    if is_none(first) | is_none(&word[..n]) {
         return lacking(sys, r, name, lacks(name));
     }
     with_two(sys, given(r, name, 3), name, first, &word[..n])
@@ -79,18 +75,20 @@ fn read_second(sys: &mut System, r: Reading, name: usize, error: i32, first: &[u
 
 fn read_two(sys: &mut System, r: Reading, name: usize) -> Reading {
     let mut word = io::buffer();
-    let n = sys.arg(past(r.next, 1), &mut word);
-    let error = sys.errno();
-    read_second(sys, r, name, error, &word[..n])
+    let Ok(n) = sys.arg(past(r.next, 1), &mut word) else {
+        return lacking(sys, r, name, lacks(name));
+    };
+    read_second(sys, r, name, &word[..n])
 }
 
 // `--sinc POINTS FACTOR BLEND`: the points, and the two words behind them.
 fn read_sinc(sys: &mut System, r: Reading) -> Reading {
     let mut word = io::buffer();
     let at = past(r.next, 1);
-    let n = sys.arg(at, &mut word);
-    let error = sys.errno();
-    if is_none(error, &word[..n]) {
+    let Ok(n) = sys.arg(at, &mut word) else {
+        return lacking(sys, r, SINC, LACKS_THREE);
+    };
+    if is_none(&word[..n]) {
         return lacking(sys, r, SINC, LACKS_THREE);
     }
     let mut s = with_count(sys, r, SINC, &word[..n]);
@@ -148,10 +146,9 @@ fn read_word(sys: &mut System, r: Reading, word: &[u8]) -> Reading {
 
 fn read_next(sys: &mut System, r: Reading) -> Reading {
     let mut word = io::buffer();
-    let n = sys.arg(r.next, &mut word);
-    if sys.errno() != 0 {
+    let Ok(n) = sys.arg(r.next, &mut word) else {
         return lacking(sys, r, 0, TOO_LONG);
-    }
+    };
     let mut s = r;
     s.name = 0;
     read_word(sys, s, &word[..n])

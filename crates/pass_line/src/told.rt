@@ -7,7 +7,7 @@ use big::Big;
 use lines::{End, Line, distance_of, is_inside};
 use position_text::{put_length, put_position, put_rounded_length, put_rounded_position};
 use printer::{front_of, put_bytes};
-use system::System;
+use system::{Fd, System};
 
 // A name, and a position as a decimal and exact.
 fn put_place(out: &mut [u8], at: usize, name: &[u8], b: Big) -> usize {
@@ -50,7 +50,7 @@ fn put_after(out: &mut [u8], at: usize, p: PassLine) -> usize {
 }
 
 // Writes the line of a block: the form with its numbers, and the positions behind it.
-pub fn write_block(sys: &mut System, log: i32, form: &[u8], numbers: &[u64], p: PassLine) -> bool {
+pub fn write_block(sys: &mut System, log: Fd, form: &[u8], numbers: &[u64], p: PassLine) -> bool {
     let mut text = [0u8; 1024];
     let front = forms::put_form(&mut text, form, numbers);
     let after = put_after(&mut text, front, p);
@@ -67,7 +67,7 @@ fn put_inside(out: &mut [u8], at: usize, l: Line) -> usize {
 }
 
 // The line of the pass.
-fn write_line(sys: &mut System, log: i32, p: PassLine) -> bool {
+fn write_line(sys: &mut System, log: Fd, p: PassLine) -> bool {
     let l = p.line;
     let mut text = [0u8; 1024];
     let front = forms::put_form(&mut text, b"line N # B #", &[l.frames, l.blocks]);
@@ -114,7 +114,7 @@ fn put_start(out: &mut [u8], log: bool) -> usize {
 // A line of the comparison: its name, its figures, and what is to be said of them.
 fn write_figures(
     sys: &mut System,
-    fd: i32,
+    fd: Fd,
     name: &[u8],
     x: f64,
     more: &[u8],
@@ -131,7 +131,7 @@ fn write_figures(
     sys.write_all(fd, &text[..k])
 }
 
-fn write_bound(sys: &mut System, fd: i32, l: Line, rate: u64, log: bool) -> bool {
+fn write_bound(sys: &mut System, fd: Fd, l: Line, rate: u64, log: bool) -> bool {
     let x = samples_in(l.most);
     let name = b"the proved bound: ";
     if is_inside(l) {
@@ -156,7 +156,7 @@ fn write_bound(sys: &mut System, fd: i32, l: Line, rate: u64, log: bool) -> bool
     )
 }
 
-fn write_rounding(sys: &mut System, fd: i32, p: PassLine, rate: u64, log: bool) -> bool {
+fn write_rounding(sys: &mut System, fd: Fd, p: PassLine, rate: u64, log: bool) -> bool {
     let mut more = [0u8; 128];
     let n = forms::put_form(
         &mut more,
@@ -176,7 +176,7 @@ fn write_rounding(sys: &mut System, fd: i32, p: PassLine, rate: u64, log: bool) 
 }
 
 // What the pass is off by, what it may be off by, and what it would be off by for other reasons.
-fn write_comparison(sys: &mut System, fd: i32, p: PassLine, rate: u64, log: bool) -> bool {
+fn write_comparison(sys: &mut System, fd: Fd, p: PassLine, rate: u64, log: bool) -> bool {
     let l = p.line;
     let distance = samples_in(distance_of(l));
     let way = samples_in(positions::distance(l.exactly, p.start));
@@ -197,7 +197,7 @@ fn write_comparison(sys: &mut System, fd: i32, p: PassLine, rate: u64, log: bool
 }
 
 // Tells the line of a pass at its end; the rate is the input's, 0 where it is not known. Whether the log took it.
-pub fn tell_line(sys: &mut System, log: i32, log_file: bool, p: PassLine, rate: u64) -> bool {
+pub fn tell_line(sys: &mut System, log: Fd, log_file: bool, p: PassLine, rate: u64) -> bool {
     if log_file {
         write_comparison(sys, system::ERROR, p, rate, false);
     }

@@ -1,15 +1,15 @@
 // The pass log as a program writes it: a record of each call, whole before the next call is made. That each
 // function is safe and ends is proved. Each answers whether the record was written; where there is no pass
-// log, fd -1, nothing is, and all is well.
+// log nothing is, and all is well.
 #![tactic(auto)]
 
 use log_calls::{put_block, put_setting, put_start};
 use log_writer::Put;
 use printer::front_of;
-use system::System;
+use system::{Fd, System};
 
 // Writes the record that was put at the front of the bytes.
-fn is_written(sys: &mut System, fd: i32, put: Put, record: &[u8]) -> bool {
+fn is_written(sys: &mut System, fd: Fd, put: Put, record: &[u8]) -> bool {
     let Put::Done(n) = put else {
         return false;
     };
@@ -18,20 +18,20 @@ fn is_written(sys: &mut System, fd: i32, put: Put, record: &[u8]) -> bool {
 }
 
 // A construction, by the index that it leaves.
-pub fn write_construction(sys: &mut System, fd: i32, index: f64) -> bool {
-    if fd < 0 {
+pub fn write_construction(sys: &mut System, log: Option<Fd>, index: f64) -> bool {
+    let Some(fd) = log else {
         return true;
-    }
+    };
     let mut record = [0u8; 71];
     let put = put_start(1, index, &mut record);
     is_written(sys, fd, put, &record)
 }
 
 // An accepted setting of the ratio, by its bits: `what` is 1 where it holds at once, 2 where it is ramped to.
-pub fn write_setting(sys: &mut System, fd: i32, what: u64, ratio: u64) -> bool {
-    if fd < 0 {
+pub fn write_setting(sys: &mut System, log: Option<Fd>, what: u64, ratio: u64) -> bool {
+    let Some(fd) = log else {
         return true;
-    }
+    };
     let mut record = [0u8; 71];
     let put = put_setting(what, ratio, &mut record);
     is_written(sys, fd, put, &record)
@@ -40,16 +40,16 @@ pub fn write_setting(sys: &mut System, fd: i32, what: u64, ratio: u64) -> bool {
 // An accepted block: the sizes that it used, its starting step, its increment and the index that it leaves.
 pub fn write_block(
     sys: &mut System,
-    fd: i32,
+    log: Option<Fd>,
     output: usize,
     input: usize,
     t: f64,
     d: f64,
     index: f64,
 ) -> bool {
-    if fd < 0 {
+    let Some(fd) = log else {
         return true;
-    }
+    };
     let mut record = [0u8; 71];
     let put = put_block(output, input, t, d, index, &mut record);
     is_written(sys, fd, put, &record)

@@ -5,7 +5,7 @@
 use options::{Options, say, say_refused, say_start};
 use printer::front_of;
 use samples::least;
-use system::System;
+use system::{Fd, System};
 use windows::WindowFunction;
 
 // The entries of a table; none where no construction takes its points or factor.
@@ -87,7 +87,7 @@ struct Got {
 }
 
 // Reads on behind the entries that are there, as many as a read takes.
-fn read_part(sys: &mut System, fd: i32, table: &mut [f64], held: &mut [f64], g: Got) -> Got {
+fn read_part(sys: &mut System, fd: Fd, table: &mut [f64], held: &mut [f64], g: Got) -> Got {
     let at = front_of(table, g.entries as usize);
     let n = least(65536, table.len() - at);
     let r = blocks::read_frames(sys, fd, &mut table[at..at + n], held, g.more, 1, n);
@@ -100,7 +100,7 @@ fn read_part(sys: &mut System, fd: i32, table: &mut [f64], held: &mut [f64], g: 
 }
 
 // Four parts make the largest table.
-fn read_all(sys: &mut System, fd: i32, table: &mut [f64]) -> Got {
+fn read_all(sys: &mut System, fd: Fd, table: &mut [f64]) -> Got {
     let mut held = [0.0; 1];
     let r = blocks::read_first(sys, fd, &mut held, 1);
     let none = Got {
@@ -133,7 +133,7 @@ fn tell_length(sys: &mut System, o: Options, g: Got, wanted: u64) {
 }
 
 // Reads the table; whether it has the right length, and nothing else is in the file.
-fn is_read(sys: &mut System, o: Options, fd: i32, table: &mut [f64]) -> bool {
+fn is_read(sys: &mut System, o: Options, fd: Fd, table: &mut [f64]) -> bool {
     let g = read_all(sys, fd, table);
     let wanted = table.len() as u64;
     if g.failed {
@@ -148,17 +148,17 @@ fn is_read(sys: &mut System, o: Options, fd: i32, table: &mut [f64]) -> bool {
 }
 
 // Whether the table stands in the area, from the file or built; a polynomial needs none.
-pub fn is_made(sys: &mut System, o: Options, fd: i32, table: &mut [f64]) -> bool {
+pub fn is_made(sys: &mut System, o: Options, fd: Option<Fd>, table: &mut [f64]) -> bool {
     if !o.has_sinc {
         return true;
     }
-    if fd < 0 {
-        return is_built(sys, o, table);
+    match fd {
+        Some(fd) => is_read(sys, o, fd, table),
+        None => is_built(sys, o, table),
     }
-    is_read(sys, o, fd, table)
 }
 
-fn write_sum(sys: &mut System, log: i32, table: &[f64]) -> bool {
+fn write_sum(sys: &mut System, log: Fd, table: &[f64]) -> bool {
     let sum = table_sum::sum_of(table);
     let mut digits = [0u8; 32];
     text::put_hex(&mut digits, 0, sum.first);
@@ -168,7 +168,7 @@ fn write_sum(sys: &mut System, log: i32, table: &[f64]) -> bool {
 }
 
 // The table's line in the log, as the program `table` has it; or its file in the place of cutoff and window.
-pub fn write_line(sys: &mut System, o: Options, log: i32, table: &[f64]) -> bool {
+pub fn write_line(sys: &mut System, o: Options, log: Fd, table: &[f64]) -> bool {
     if !o.has_sinc {
         return true;
     }

@@ -1,11 +1,11 @@
 // The status of a run, in a file: `hazivotra` reads it there and ends with it.
-use system::System;
+use system::{Fd, System};
 
 // Writes the status and a line feed into the file, if it is open, and closes it.
-pub fn put_status(sys: &mut System, fd: i32, status: u64) {
-    if fd >= 0 {
+pub fn put_status(sys: &mut System, fd: Option<Fd>, status: u64) {
+    if let Some(fd) = fd {
         sys.print_decimal(fd, status);
         sys.write_all(fd, b"\n");
-        sys.close(fd);
+        let _ = sys.close(fd);
     }
 }

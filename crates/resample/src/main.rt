@@ -168,10 +168,10 @@ fn pass_on(sys: &mut System, o: Options, changes: &[u64]) -> bool {
 fn tones_on(sys: &mut System, o: Options) -> bool {
     let inputs = options::open_inputs(sys, o);
     let files = options::open_output(sys, o, inputs);
-    if !files.good {
-        return false;
+    match files.output {
+        Some(fd) => tones::write_tones(sys, o.tones, fd),
+        None => false,
     }
-    tones::write_tones(sys, o.tones, files.output)
 }
 
 // What the words ask for: help, the version, tones or a pass. Whether it went well.

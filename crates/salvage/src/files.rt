@@ -3,62 +3,51 @@ use crate::listing::say;
 use crate::words::Words;
 use file_facts::{Facts, is_same};
 use programs::Common;
-use system::System;
+use system::{Failed, Fd, System};
 
-// The log, and where its records go. `size` is the log's where it is a regular file, else 0. `good` says that
-// both are open.
+// The log, and where its records go. `size` is the log's where it is a regular file, else 0.
 #[derive(Clone, Copy)]
 pub struct Files {
-    pub input: i32,
-    pub output: i32,
+    pub input: Fd,
+    pub output: Fd,
     pub size: u64,
-    pub good: bool,
-}
-
-fn no_files() -> Files {
-    Files {
-        input: -1,
-        output: -1,
-        size: 0,
-        good: false,
-    }
 }
 
 // Says so where a file could not be opened.
-fn told(sys: &mut System, fd: i32, name: &[u8]) -> i32 {
-    if fd < 0 {
+fn told(sys: &mut System, fd: Result<Fd, Failed>, name: &[u8]) -> Option<Fd> {
+    if fd.is_err() {
         say(sys, b"salvage: cannot open ");
         sys.fail(name);
     }
-    fd
+    fd.ok()
 }
 
 // Opens the log; `-` is standard input.
-fn open_log(sys: &mut System, at: usize) -> i32 {
+fn open_log(sys: &mut System, at: usize) -> Option<Fd> {
     let mut word = io::buffer();
-    let n = sys.arg(at, &mut word);
+    let n = sys.arg(at, &mut word).unwrap_or(0);
     if check::same(&word[..n], b"-") {
-        return system::INPUT;
+        return Some(system::INPUT);
     }
     let fd = sys.open_read(&word[..n]);
     told(sys, fd, &word[..n])
 }
 
 // Opens the file that is written; what it held is gone.
-fn open_out(sys: &mut System, at: usize) -> i32 {
+fn open_out(sys: &mut System, at: usize) -> Option<Fd> {
     let mut word = io::buffer();
-    let n = sys.arg(at, &mut word);
+    let n = sys.arg(at, &mut word).unwrap_or(0);
     let fd = sys.open_overwrite(&word[..n]);
     told(sys, fd, &word[..n])
 }
 
 // What the system tells of the file that the word at the place `at` names: nothing where there is no word.
-fn facts_in(sys: &mut System, at: usize) -> Facts {
+fn facts_in(sys: &mut System, at: usize) -> Option<Facts> {
     if at == 0 {
-        return file_facts::facts_of(sys, -1);
+        return None;
     }
     let mut word = io::buffer();
-    let n = sys.arg(at, &mut word);
+    let n = sys.arg(at, &mut word).unwrap_or(0);
     if check::same(&word[..n], b"-") {
         return file_facts::facts_of(sys, system::INPUT);
     }
@@ -72,13 +61,13 @@ fn is_same_name(sys: &mut System, a: usize, b: usize) -> bool {
     }
     let mut first = io::buffer();
     let mut second = io::buffer();
-    let n = sys.arg(a, &mut first);
-    let m = sys.arg(b, &mut second);
+    let n = sys.arg(a, &mut first).unwrap_or(0);
+    let m = sys.arg(b, &mut second).unwrap_or(0);
     check::same(&first[..n], &second[..m])
 }
 
 // Whether --out names the file of the status too.
-fn is_status(sys: &mut System, common: Common, out: Facts) -> bool {
+fn is_status(sys: &mut System, common: Common, out: Option<Facts>) -> bool {
     is_same(out, facts_in(sys, common.status)) | is_same_name(sys, common.out, common.status)
 }
 
@@ -93,7 +82,7 @@ fn is_told(sys: &mut System, same: bool, what: &[u8]) -> bool {
 }
 
 // Whether --out is another file of the run, before it is opened; it is told.
-fn has_clash(sys: &mut System, common: Common, log: Facts) -> bool {
+fn has_clash(sys: &mut System, common: Common, log: Option<Facts>) -> bool {
     let out = facts_in(sys, common.out);
     let output = file_facts::facts_of(sys, system::OUTPUT);
     let a = is_told(sys, is_same(out, log), b"the log");
@@ -107,33 +96,29 @@ fn has_clash(sys: &mut System, common: Common, log: Facts) -> bool {
     a | b | c
 }
 
-fn size_of(log: Facts) -> u64 {
-    if file_facts::is_regular(log) {
-        return log.size;
+fn size_of(log: Option<Facts>) -> u64 {
+    match log {
+        Some(facts) if file_facts::is_regular(log) => facts.size,
+        _ => 0,
     }
-    0
 }
 
 // Opens the log, and then what is written. Where one cannot be opened, or --out is another file of the run,
-// that is told, and `good` is false.
-pub fn open_files(sys: &mut System, w: Words) -> Files {
+// that is told, and there are none.
+pub fn open_files(sys: &mut System, w: Words) -> Option<Files> {
     programs::fill_low(sys);
-    let input = open_log(sys, w.file);
-    if input < 0 {
-        return no_files();
-    }
+    let input = open_log(sys, w.file)?;
     let log = file_facts::facts_of(sys, input);
     let common = w.common;
     if has_clash(sys, common, log) {
-        return no_files();
+        return None;
     }
-    let output = open_out(sys, common.out);
-    Files {
+    let output = open_out(sys, common.out)?;
+    Some(Files {
         input,
         output,
         size: size_of(log),
-        good: output >= 0,
-    }
+    })
 }
 
 // Whether the file for the status is another file of the run.

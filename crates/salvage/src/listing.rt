@@ -1,7 +1,7 @@
 // The listing on standard output, the records in their file, and what is told of them.
 use log_parts::Walk;
 use printer::{front_of, put_byte, put_bytes, put_decimal};
-use system::System;
+use system::{Fd, System};
 use tally::plus;
 
 // How much was listed: records that are kept and their bytes, stretches that are skipped and theirs. `good` is
@@ -59,7 +59,7 @@ pub fn list_skipped(sys: &mut System, l: Listed, w: Walk) -> Listed {
 }
 
 // The record that stands at the walk's place: written to its file, and then listed.
-fn keep_record(sys: &mut System, l: Listed, w: Walk, fd: i32, record: &[u8]) -> Listed {
+fn keep_record(sys: &mut System, l: Listed, w: Walk, fd: Fd, record: &[u8]) -> Listed {
     if !sys.write_all(fd, record) {
         return failed(sys, l, b"salvage: writing the records to the file of --out");
     }
@@ -74,7 +74,7 @@ fn keep_record(sys: &mut System, l: Listed, w: Walk, fd: i32, record: &[u8]) -> 
 }
 
 // What is skipped in front of a record, and the record.
-pub fn keep(sys: &mut System, l: Listed, w: Walk, fd: i32, record: &[u8]) -> Listed {
+pub fn keep(sys: &mut System, l: Listed, w: Walk, fd: Fd, record: &[u8]) -> Listed {
     let before = list_skipped(sys, l, w);
     if before.good {
         return keep_record(sys, before, w, fd, record);

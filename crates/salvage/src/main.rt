@@ -63,11 +63,10 @@ fn status_of(sys: &mut System, w: Words) -> u64 {
     if common.help {
         return if help(sys) { 0 } else { 1 };
     }
-    let f = files::open_files(sys, w);
-    if !f.good {
-        return 1;
+    match files::open_files(sys, w) {
+        Some(f) if run::salvage(sys, f) => 0,
+        _ => 1,
     }
-    if run::salvage(sys, f) { 0 } else { 1 }
 }
 
 fn main(rt: HostRuntime) {

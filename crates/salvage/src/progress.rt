@@ -5,11 +5,11 @@ use system::System;
 // The clock's second that was seen last, and how many others were seen before.
 #[derive(Clone, Copy)]
 pub struct Clock {
-    pub second: i64,
+    pub second: Option<i64>,
     pub ticks: u64,
 }
 
-fn second_now(sys: &mut System) -> i64 {
+fn second_now(sys: &mut System) -> Option<i64> {
     sys.second()
 }
 

@@ -8,7 +8,7 @@ use crate::listing::{Listed, keep, list_skipped, say, say_count, tell_end};
 use crate::progress::{Clock, clock_now, ticked};
 use log_parts::{Part, Walk, after, more, passed};
 use log_salvage::{Stretch, next_stretch};
-use system::System;
+use system::{Fd, System};
 use tally::plus;
 
 #[derive(Clone, Copy)]
@@ -151,8 +151,8 @@ fn turns(sys: &mut System, first: Run, f: Files, buf: &mut [u8]) -> Run
 }
 
 // The file of --out is closed, or it is told why not.
-fn is_closed(sys: &mut System, fd: i32) -> bool {
-    let closed = sys.close(fd) == 0;
+fn is_closed(sys: &mut System, fd: Fd) -> bool {
+    let closed = sys.close(fd).is_ok();
     if !closed {
         sys.fail(b"salvage: closing the file of --out");
     }

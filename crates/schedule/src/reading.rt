@@ -3,7 +3,7 @@ ghost use Rattle.std.specs.Prelude.{◌+◌, ◌≤◌, length};
 
 use crate::entries::{Entry, entry_of};
 use samples::least;
-use system::System;
+use system::{Fd, System};
 
 // Where the reading stands: the bytes at `at` up to `end` of the buffer are not yet used; `line` is the number
 // of the line read last; `ended` says that there is no more to read, `failed` that a read failed.
@@ -91,21 +91,22 @@ fn to_front(bytes: &mut [u8], at: usize, held: usize)
 }
 
 // One read behind the bytes that are held.
-fn read_on(sys: &mut System, fd: i32, bytes: &mut [u8], held: usize, line: u64) -> Cursor
+fn read_on(sys: &mut System, fd: Fd, bytes: &mut [u8], held: usize, line: u64) -> Cursor
     requires { held ≤ length bytes.old }
 {
     let got = sys.read(fd, &mut bytes[held..]);
+    let n = got.unwrap_or(0);
     Cursor {
         at: 0,
-        end: held + got.count,
+        end: held + n,
         line,
-        ended: got.count == 0,
-        failed: got.failed,
+        ended: n == 0,
+        failed: got.is_err(),
     }
 }
 
 // No line's end is in the buffer: more is read, if a line may be so long.
-fn more(sys: &mut System, fd: i32, bytes: &mut [u8], c: Cursor) -> Step
+fn more(sys: &mut System, fd: Fd, bytes: &mut [u8], c: Cursor) -> Step
     requires { (c.at ≤ c.end) × (c.end ≤ length bytes.old) }
 {
     let held = c.end - c.at;
@@ -140,7 +141,7 @@ fn last_read(bytes: &[u8], c: Cursor) -> Step
 }
 
 // One line, or one read; a blank entry where there is nothing to tell yet.
-fn turn(sys: &mut System, fd: i32, bytes: &mut [u8], c: Cursor) -> Step {
+fn turn(sys: &mut System, fd: Fd, bytes: &mut [u8], c: Cursor) -> Step {
     let k = kept(c, bytes.len());
     let at = k.at;
     let end = k.end;
@@ -167,7 +168,7 @@ fn is_open(s: Step) -> bool {
 
 // The next change of the plan. Nothing says that a file ends, so the turns are counted down from a number that
 // no run uses up.
-pub fn next_entry(sys: &mut System, fd: i32, bytes: &mut [u8], c: Cursor) -> Step {
+pub fn next_entry(sys: &mut System, fd: Fd, bytes: &mut [u8], c: Cursor) -> Step {
     let mut s = Step {
         next: Next::Found(Entry::Blank),
         cursor: c,

@@ -44,8 +44,7 @@ fn filled(sys: &mut System, buf: &mut [u8], input: Input) -> Input {
     if !input.open {
         return input;
     }
-    let got = sys.read(system::INPUT, buf);
-    let n = got.count;
+    let n = sys.read(system::INPUT, buf).unwrap_or(0);
     Input {
         at: 0,
         end: n,

@@ -2,77 +2,77 @@
 use crate::say::say;
 use crate::words::{Words, is_log};
 use file_facts::{Facts, is_same};
-use system::System;
+use system::{Fd, System};
 
-// A log: the place of its name, its descriptor, below 0 where it could not be opened, and its size where it is
+// A log: the place of its name, its descriptor, and its size where it is
 // a regular file, else 0.
 #[derive(Clone, Copy)]
 pub struct Log {
     pub word: usize,
-    pub fd: i32,
+    pub fd: Fd,
     pub size: u64,
 }
 
 // Opens the file at a name; `-` is standard input.
-fn open_word(sys: &mut System, at: usize) -> i32 {
+fn open_word(sys: &mut System, at: usize) -> Option<Fd> {
     let mut word = io::buffer();
-    let n = sys.arg(at, &mut word);
+    let n = sys.arg(at, &mut word).unwrap_or(0);
     if check::same(&word[..n], b"-") {
-        return system::INPUT;
+        return Some(system::INPUT);
     }
     let fd = sys.open_read(&word[..n]);
-    if fd < 0 {
+    if fd.is_err() {
         say(sys, b"sheet: cannot open ");
         sys.fail(&word[..n]);
         say(sys, b"sheet: that log is left out of the sheet\n");
     }
-    fd
+    fd.ok()
 }
 
-fn size_of(log: Facts) -> u64 {
-    if file_facts::is_regular(log) {
-        return log.size;
+fn size_of(log: Option<Facts>) -> u64 {
+    match log {
+        Some(facts) if file_facts::is_regular(log) => facts.size,
+        _ => 0,
     }
-    0
 }
 
 // Opens a log. Where it cannot be opened, that is told.
-pub fn open_log(sys: &mut System, word: usize) -> Log {
+pub fn open_log(sys: &mut System, word: usize) -> Option<Log> {
     programs::fill_low(sys);
-    let fd = open_word(sys, word);
-    Log {
+    let fd = open_word(sys, word)?;
+    Some(Log {
         word,
         fd,
         size: size_of(file_facts::facts_of(sys, fd)),
-    }
+    })
 }
 
 pub fn close_log(sys: &mut System, log: Log) {
-    if log.fd > 2 {
-        sys.close(log.fd);
+    if log.fd.is_file() {
+        let _ = sys.close(log.fd);
     }
 }
 
 // Opens a file to be written; what it held is gone.
-pub fn open_out(sys: &mut System, at: usize) -> i32 {
+pub fn open_out(sys: &mut System, at: usize) -> Option<Fd> {
     programs::fill_low(sys);
     let mut word = io::buffer();
-    let n = sys.arg(at, &mut word);
+    let n = sys.arg(at, &mut word).unwrap_or(0);
     let fd = sys.open_overwrite(&word[..n]);
-    if fd < 0 {
+    if fd.is_err() {
         say(sys, b"sheet: cannot open ");
         sys.fail(&word[..n]);
     }
-    fd
+    fd.ok()
 }
 
 // What the system tells of the file that the word at the place `at` names: nothing where there is no word.
-fn facts_in(sys: &mut System, at: usize) -> Facts {
+fn facts_in(sys: &mut System, at: usize) -> Option<Facts> {
     if at == 0 {
-        return file_facts::facts_of(sys, -1);
+        return None;
     }
     let mut word = io::buffer();
-    let n = sys.arg(at, &mut word);
+    let n = sys.arg(at, &mut word).unwrap_or(0);
     if check::same(&word[..n], b"-") {
         return file_facts::facts_of(sys, system::INPUT);
     }
@@ -86,8 +86,8 @@ fn is_same_name(sys: &mut System, a: usize, b: usize) -> bool {
     }
     let mut first = io::buffer();
     let mut second = io::buffer();
-    let n = sys.arg(a, &mut first);
-    let m = sys.arg(b, &mut second);
+    let n = sys.arg(a, &mut first).unwrap_or(0);
+    let m = sys.arg(b, &mut second).unwrap_or(0);
     check::same(&first[..n], &second[..m])
 }
 

@@ -78,11 +78,10 @@ fn with_log(
 ) -> Book {
     let page = b.page;
     let mut c = b;
-    let log = open_log(sys, word);
-    if log.fd < 0 {
+    let Some(log) = open_log(sys, word) else {
         c.page = not_whole(page);
         return c;
-    }
+    };
     c.page = turned_over(page);
     c.seen = nothing_seen();
     let r = turns(sys, first_run(c), log, buf, chart);

@@ -18,7 +18,7 @@ pub fn say_count(sys: &mut System, n: u64, one: &[u8], many: &[u8]) {
 // The word at the place `at`, between two texts.
 pub fn say_word(sys: &mut System, before: &[u8], at: usize, behind: &[u8]) {
     let mut word = io::buffer();
-    let n = sys.arg(at, &mut word);
+    let n = sys.arg(at, &mut word).unwrap_or(0);
     say(sys, before);
     say(sys, &word[..n]);
     say(sys, behind);

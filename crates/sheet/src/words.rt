@@ -99,7 +99,7 @@ fn with_next(sys: &mut System, w: Words, at: usize) -> Words {
         return w;
     }
     let mut word = io::buffer();
-    let n = sys.arg(at, &mut word);
+    let n = sys.arg(at, &mut word).unwrap_or(0);
     with_word(sys, w, at, &word[..n])
 }
 
@@ -122,7 +122,7 @@ fn complete(sys: &mut System, w: Words) -> Words {
 pub fn is_log(sys: &mut System, w: Words, at: usize) -> bool {
     let common = w.common;
     let mut word = io::buffer();
-    let n = sys.arg(at, &mut word);
+    let n = sys.arg(at, &mut word).unwrap_or(0);
     let names = programs::is_file(&word[..n]) | check::same(&word[..n], b"-");
     names & (at != w.picture) & (at != common.status)
 }

@@ -1,24 +1,15 @@
 // The words that the program was started with, its own name as the first.
-ghost use Rattle.std.specs.Prelude.{◌≤◌, length};
+ghost use Rattle.std.specs.Io.{WritesAtMost};
 
 use crate::System;
-use crate::failing::{INVALID, TOO_LONG};
+use crate::failing::Failed;
 use std::env::FillError;
 use std::rt::Env;
-
-// Whether there is a word at this place.
-fn is_there(rt: &HostRuntime, at: usize) -> bool {
-    match rt.arg(at, &mut []) {
-        Ok(_) => true,
-        Err(FillError::TooLong) => true,
-        Err(FillError::NotPresent) => false,
-    }
-}
 
 // How many words there are.
 pub fn counted(rt: &HostRuntime) -> usize {
     for at in 0..usize::MAX {
-        if !is_there(rt, at) {
+        if let Err(FillError::NotPresent) = rt.arg(at, &mut []) {
             return at;
         }
     }
@@ -30,24 +21,18 @@ impl System {
         self.words
     }
 
-    // Puts a word into the buffer: its length, or 0 where there is none or no room for it. Then `errno` is not
-    // 0, and it is 0 where the word is there.
-    pub fn arg(&mut self, at: usize, buf: &mut [u8]) -> usize
-        ensures { result ≤ length buf.new }
+    // Puts a word into the buffer: its length, or why not, where there is none or no room for it. A word that is
+    // there is no failure, and leaves none to be told.
+    pub fn arg(&mut self, at: usize, buf: &mut [u8]) -> Result<usize, Failed>
+        ensures { WritesAtMost result buf.new }
     {
-        match self.rt.arg(at, buf) {
+        let n = self.rt.arg(at, buf);
+        match n {
             Ok(n) => {
-                self.error = 0;
-                n
+                self.last = None;
+                Ok(n)
             }
-            Err(FillError::TooLong) => {
-                self.error = TOO_LONG;
-                0
-            }
-            Err(FillError::NotPresent) => {
-                self.error = INVALID;
-                0
-            }
+            Err(e) => self.noted(Err(Failed::from(e))),
         }
     }
 }

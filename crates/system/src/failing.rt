@@ -1,24 +1,48 @@
 // What failed last.
-ghost use Rattle.std.specs.Prelude.{◌≤◌};
+ghost use Rattle.std.specs.Prelude.{◌≡◌, ◌≤◌};
 
 use crate::{ERROR, System};
+use std::env::FillError;
 use std::fmt::Write;
 use std::{fmt, io};
 
-// C's numbers of failures: the name has a 0 in it; it is too long; it is no text as std wants it.
-pub const INVALID: i32 = 22;
+// Why the system did not do what it was asked: C's number of the failure.
+#[derive(Clone, Copy, PartialEq, Eq)]
+pub struct Failed {
+    number: i32,
+}
 
-pub const TOO_LONG: i32 = 36;
+// The name has a 0 in it; it is too long; it is no text as std wants it.
+pub const INVALID: Failed = Failed { number: 22 };
 
-pub const NO_TEXT: i32 = 84;
+pub const TOO_LONG: Failed = Failed { number: 36 };
 
-// No file is open under this number; too many are.
-pub const NOT_OPEN: i32 = 9;
+pub const NO_TEXT: Failed = Failed { number: 84 };
 
-pub const TOO_MANY: i32 = 24;
+// No file is open at this place; too many are.
+pub const NOT_OPEN: Failed = Failed { number: 9 };
+
+pub const TOO_MANY: Failed = Failed { number: 24 };
 
 // Of a failure that std gives no number.
 const OTHER: i32 = 5;
+
+impl From<io::Error> for Failed {
+    fn from(e: io::Error) -> Failed {
+        Failed {
+            number: e.raw_os_error().unwrap_or(OTHER),
+        }
+    }
+}
+
+impl From<FillError> for Failed {
+    fn from(e: FillError) -> Failed {
+        match e {
+            FillError::NotPresent => INVALID,
+            FillError::TooLong => TOO_LONG,
+        }
+    }
+}
 
 const ROOM: usize = 128;
 
@@ -59,20 +83,14 @@ fn told_to(words: &Words) -> usize
 }
 
 impl System {
-    // Keeps the number of a failure.
-    pub(crate) fn failed(&mut self, e: io::Error) {
-        self.error = e.raw_os_error().unwrap_or(OTHER);
-    }
-
-    // Keeps this number, and answers that there is no descriptor.
-    pub(crate) fn none(&mut self, error: i32) -> i32 {
-        self.error = error;
-        -1
-    }
-
-    // The number of the last failure; behind `arg` it is 0 where the whole word was there.
-    pub fn errno(&self) -> i32 {
-        self.error
+    // Keeps a failure as the last one.
+    pub(crate) fn noted<T>(&mut self, answer: Result<T, Failed>) -> Result<T, Failed>
+        ensures { result ≡ answer }
+    {
+        if let Err(e) = &answer {
+            self.last = Some(*e);
+        }
+        answer
     }
 
     // Writes a line to standard error: what failed, as the caller names it, a colon and the system's text of
@@ -82,7 +100,8 @@ impl System {
             bytes: [0; ROOM],
             len: 0,
         };
-        let e = io::Error::from_raw_os_error(self.error);
+        let number = self.last.map_or(0, |e| e.number);
+        let e = io::Error::from_raw_os_error(number);
         let _ = write!(words, "{e}");
         let k = told_to(&words);
         self.write_all(ERROR, what);

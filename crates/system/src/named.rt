@@ -1,10 +1,10 @@
 // Files by their names. A name is bytes, and std wants it as text.
 ghost use Rattle.std.specs.Prelude.{◌≤◌, length};
 
-use crate::System;
-use crate::failing::{INVALID, NO_TEXT, TOO_LONG};
-use std::fs::{File, OpenOptions};
-use std::{fs, io};
+use crate::failing::{Failed, INVALID, NO_TEXT, TOO_LONG};
+use crate::{Fd, System};
+use std::fs;
+use std::fs::OpenOptions;
 
 // How long a name can be, the 0 behind it among them.
 const MOST: usize = 4096;
@@ -13,70 +13,61 @@ const MOST: usize = 4096;
 pub fn up_to_zero(name: &[u8]) -> usize
     ensures { result ≤ length name.now }
 {
-    for (at, b) in name.iter().enumerate() {
-        if *b == 0 {
-            return at;
-        }
-    }
-    name.len()
+    name.iter().position(|b| *b == 0).unwrap_or(name.len())
 }
 
 // The name as text.
-pub fn text_of(name: &[u8]) -> io::Result<&str> {
+pub fn text_of(name: &[u8]) -> Result<&str, Failed> {
     if name.len() >= MOST {
-        return Err(io::Error::from_raw_os_error(TOO_LONG));
+        return Err(TOO_LONG);
     }
-    if up_to_zero(name) < name.len() {
-        return Err(io::Error::from_raw_os_error(INVALID));
+    if name.contains(&0) {
+        return Err(INVALID);
     }
     match std::str::from_utf8(name) {
         Ok(text) => Ok(text),
-        Err(_) => Err(io::Error::from_raw_os_error(NO_TEXT)),
+        Err(_) => Err(NO_TEXT),
     }
 }
 
 impl System {
-    fn opened(&mut self, name: &[u8], how: &OpenOptions) -> io::Result<File> {
-        let text = text_of(name)?;
-        how.open(&self.rt, text)
+    fn opened(&mut self, name: &[u8], how: &OpenOptions) -> Result<Fd, Failed> {
+        let file = how.open(&self.rt, text_of(name)?)?;
+        self.keep(file)
     }
 
-    // Opens a file to be read: its descriptor, or -1.
-    pub fn open_read(&mut self, name: &[u8]) -> i32 {
+    // Opens a file to be read.
+    pub fn open_read(&mut self, name: &[u8]) -> Result<Fd, Failed> {
         let mut how = OpenOptions::new();
         how.read(true);
-        let file = self.opened(name, &how);
-        self.kept(file)
+        let fd = self.opened(name, &how);
+        self.noted(fd)
     }
 
     // Makes a file to be written, and fails where the name is taken.
-    pub fn create(&mut self, name: &[u8]) -> i32 {
+    pub fn create(&mut self, name: &[u8]) -> Result<Fd, Failed> {
         let mut how = OpenOptions::new();
         how.write(true).create_new(true);
-        let file = self.opened(name, &how);
-        self.kept(file)
+        let fd = self.opened(name, &how);
+        self.noted(fd)
     }
 
     // Opens a file to be written, empties it, and makes it where it is missing.
-    pub fn open_overwrite(&mut self, name: &[u8]) -> i32 {
+    pub fn open_overwrite(&mut self, name: &[u8]) -> Result<Fd, Failed> {
         let mut how = OpenOptions::new();
         how.write(true).create(true).truncate(true);
-        let file = self.opened(name, &how);
-        self.kept(file)
+        let fd = self.opened(name, &how);
+        self.noted(fd)
     }
 
-    // Takes the name away: 0, or -1 where it stays.
-    pub fn unlink(&mut self, name: &[u8]) -> i32 {
-        let gone = match text_of(name) {
-            Ok(text) => fs::remove_file(&self.rt, text),
-            Err(e) => Err(e),
-        };
-        match gone {
-            Ok(()) => 0,
-            Err(e) => {
-                self.failed(e);
-                -1
-            }
-        }
+    fn removed(&mut self, name: &[u8]) -> Result<(), Failed> {
+        fs::remove_file(&self.rt, text_of(name)?)?;
+        Ok(())
+    }
+
+    // Takes the name away.
+    pub fn unlink(&mut self, name: &[u8]) -> Result<(), Failed> {
+        let gone = self.removed(name);
+        self.noted(gone)
     }
 }

@@ -1,110 +1,76 @@
 // The table of the files that were opened.
-use crate::failing::{NOT_OPEN, TOO_MANY};
-use crate::{ERROR, ROOM, System};
+use crate::failing::{Failed, NOT_OPEN, TOO_MANY};
+use crate::{Fd, System};
 use std::fs::File;
-use std::io;
 use std::io::{Seek, SeekFrom};
 
-pub fn no_files() -> [Option<File>; ROOM] {
-    [
-        None, None, None, None, None, None, None, None, None, None, None, None, None, None, None,
-        None,
-    ]
-}
-
-// The place of a descriptor of the table, ROOM for any other.
-pub fn place_of(fd: i32) -> usize {
-    if fd <= ERROR {
-        return ROOM;
-    }
-    fd as usize
-}
-
 impl System {
-    // The lowest place from 3 up where no file is, ROOM where there is none.
-    fn free_place(&self) -> usize {
-        for at in 3..ROOM {
-            if self.files[at].is_none() {
-                return at;
-            }
-        }
-        ROOM
-    }
-
-    // Puts a file into the table, and answers its descriptor.
-    pub(crate) fn keep(&mut self, file: File) -> i32 {
-        let at = self.free_place();
-        if at >= ROOM {
-            drop(file);
-            return self.none(TOO_MANY);
-        }
-        self.files[at] = Some(file);
-        at as i32
-    }
-
-    // What was opened is kept.
-    pub(crate) fn kept(&mut self, opened: io::Result<File>) -> i32 {
-        match opened {
-            Ok(file) => self.keep(file),
-            Err(e) => {
-                self.failed(e);
-                -1
-            }
+    // The file at a place of the table.
+    pub(crate) fn file(&self, at: usize) -> Result<&File, Failed> {
+        match self.files.get(at) {
+            Some(Some(file)) => Ok(file),
+            _ => Err(NOT_OPEN),
         }
     }
 
-    // Closes an opened file: 0, or -1 where there is none under this number.
-    pub fn close(&mut self, fd: i32) -> i32 {
-        let at = place_of(fd);
-        if at >= ROOM {
-            return self.none(NOT_OPEN);
+    pub(crate) fn file_mut(&mut self, at: usize) -> Result<&mut File, Failed> {
+        match self.files.get_mut(at) {
+            Some(Some(file)) => Ok(file),
+            _ => Err(NOT_OPEN),
         }
-        match self.files[at].take() {
-            Some(file) => {
-                drop(file);
-                0
+    }
+
+    // Puts a file into the first place of the table that is free.
+    pub(crate) fn keep(&mut self, file: File) -> Result<Fd, Failed> {
+        match self.files.iter().position(|place| place.is_none()) {
+            Some(at) => {
+                self.files[at] = Some(file);
+                Ok(Fd::File(at))
             }
-            None => self.none(NOT_OPEN),
+            None => Err(TOO_MANY),
+        }
+    }
+
+    fn closed(&mut self, fd: Fd) -> Result<(), Failed> {
+        let Fd::File(at) = fd else {
+            return Err(NOT_OPEN);
+        };
+        let file = self.files.get_mut(at).and_then(|place| place.take());
+        match file {
+            Some(_) => Ok(()),
+            None => Err(NOT_OPEN),
+        }
+    }
+
+    // Closes a file that was opened.
+    pub fn close(&mut self, fd: Fd) -> Result<(), Failed> {
+        let closed = self.closed(fd);
+        self.noted(closed)
+    }
+
+    fn begun(&mut self, fd: Fd) -> Result<u64, Failed> {
+        match fd {
+            Fd::File(at) => Ok(self.file_mut(at)?.seek(SeekFrom::Start(0))?),
+            _ => Err(NOT_OPEN),
         }
     }
 
     // Whether reading the file begins again at its start.
-    pub fn rewind(&mut self, fd: i32) -> bool {
-        let at = place_of(fd);
-        if at >= ROOM {
-            self.none(NOT_OPEN);
-            return false;
-        }
-        let moved = match &mut self.files[at] {
-            Some(file) => file.seek(SeekFrom::Start(0)),
-            None => Err(io::Error::from_raw_os_error(NOT_OPEN)),
-        };
-        match moved {
-            Ok(to) => to == 0,
-            Err(e) => {
-                self.failed(e);
-                false
-            }
+    pub fn rewind(&mut self, fd: Fd) -> bool {
+        let begun = self.begun(fd);
+        self.noted(begun) == Ok(0)
+    }
+
+    fn emptied(&mut self, fd: Fd) -> Result<(), Failed> {
+        match fd {
+            Fd::File(at) => Ok(self.file(at)?.set_len(0)?),
+            _ => Err(NOT_OPEN),
         }
     }
 
     // Empties the file; whether it was.
-    pub fn empty(&mut self, fd: i32) -> bool {
-        let at = place_of(fd);
-        if at >= ROOM {
-            self.none(NOT_OPEN);
-            return false;
-        }
-        let emptied = match &self.files[at] {
-            Some(file) => file.set_len(0),
-            None => Err(io::Error::from_raw_os_error(NOT_OPEN)),
-        };
-        match emptied {
-            Ok(()) => true,
-            Err(e) => {
-                self.failed(e);
-                false
-            }
-        }
+    pub fn empty(&mut self, fd: Fd) -> bool {
+        let emptied = self.emptied(fd);
+        self.noted(emptied).is_ok()
     }
 }

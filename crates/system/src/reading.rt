@@ -1,69 +1,41 @@
 // Reading.
-ghost use Rattle.std.specs.Prelude.{◌≡◌, ◌≤◌, length, IsTrue};
+ghost use Rattle.std.specs.Prelude.{◌≤◌, length};
 ghost use Rattle.std.specs.Io.{ReadsAtMost};
 
-use crate::failing::NOT_OPEN;
-use crate::opened::place_of;
-use crate::{INPUT, ROOM, System};
-use std::io;
+use crate::failing::{Failed, NOT_OPEN};
+use crate::{Fd, System};
 use std::io::Read;
 
-// What one read brought: so many bytes at the front of the buffer, none at the end of the input and where the
-// read failed.
-#[derive(Clone, Copy)]
-pub struct Got {
-    pub count: usize,
-    pub failed: bool,
-}
-
 impl System {
-    fn read_some(&mut self, fd: i32, buf: &mut [u8]) -> io::Result<usize>
+    fn read_some(&mut self, fd: Fd, buf: &mut [u8]) -> Result<usize, Failed>
         ensures { ReadsAtMost result buf.new }
     {
-        if fd == INPUT {
-            return self.rt.stdin().read(buf);
-        }
-        let at = place_of(fd);
-        if at >= ROOM {
-            return Err(io::Error::from_raw_os_error(NOT_OPEN));
-        }
-        match &mut self.files[at] {
-            Some(file) => file.read(buf),
-            None => Err(io::Error::from_raw_os_error(NOT_OPEN)),
+        match fd {
+            Fd::Input => Ok(self.rt.stdin().read(buf)?),
+            Fd::File(at) => Ok(self.file_mut(at)?.read(buf)?),
+            _ => Err(NOT_OPEN),
         }
     }
 
-    // Reads once.
-    pub fn read(&mut self, fd: i32, buf: &mut [u8]) -> Got
-        ensures bound { result.count ≤ length buf.new }
-        ensures none { IsTrue result.failed → result.count ≡ 0 }
+    // Reads once: so many bytes at the front of the buffer, none at the end of the input.
+    pub fn read(&mut self, fd: Fd, buf: &mut [u8]) -> Result<usize, Failed>
+        ensures { ReadsAtMost result buf.new }
     {
-        match self.read_some(fd, buf) {
-            Ok(count) => Got {
-                count,
-                failed: false,
-            },
-            Err(e) => {
-                self.failed(e);
-                Got {
-                    count: 0,
-                    failed: true,
-                }
-            }
-        }
+        let got = self.read_some(fd, buf);
+        self.noted(got)
     }
 
     // Reads until the buffer is full, the input ends or a read fails, and answers how many bytes there are.
-    pub fn read_full(&mut self, fd: i32, buf: &mut [u8]) -> usize
+    pub fn read_full(&mut self, fd: Fd, buf: &mut [u8]) -> usize
         ensures { result ≤ length buf.new }
     {
         let mut done = 0;
         while done < buf.len() {
-            let got = self.read(fd, &mut buf[done..]);
-            if got.count == 0 {
+            let n = self.read(fd, &mut buf[done..]).unwrap_or(0);
+            if n == 0 {
                 break;
             }
-            done += got.count;
+            done += n;
         }
         done
     }

@@ -1,13 +1,10 @@
 // What the system tells of a file.
-ghost use Rattle.std.specs.Prelude.{◌≡◌, ◌≢◌, pos};
-
-use crate::failing::NOT_OPEN;
+use crate::failing::Failed;
 use crate::named::{text_of, up_to_zero};
-use crate::opened::place_of;
-use crate::{ERROR, INPUT, OUTPUT, ROOM, System};
+use crate::{Fd, System};
+use std::fs;
 use std::fs::Metadata;
 use std::os::unix::fs::MetadataExt;
-use std::{fs, io};
 
 // `mode` has the kind of file and who may do what with it, `special` is the device that a special file
 // stands for.
@@ -20,71 +17,44 @@ pub struct Record {
     pub size: i64,
 }
 
-fn told(m: &Metadata) -> Record {
-    Record {
-        device: m.dev(),
-        inode: m.ino(),
-        mode: m.mode(),
-        special: m.rdev(),
-        size: m.size().cast_signed(),
+impl From<Metadata> for Record {
+    fn from(m: Metadata) -> Record {
+        Record {
+            device: m.dev(),
+            inode: m.ino(),
+            mode: m.mode(),
+            special: m.rdev(),
+            size: m.size().cast_signed(),
+        }
     }
 }
 
 impl System {
     // std tells of a standard stream only by its name.
-    fn metadata(&self, fd: i32) -> io::Result<Metadata> {
-        if fd == INPUT {
-            return fs::metadata(&self.rt, "/proc/self/fd/0");
-        }
-        if fd == OUTPUT {
-            return fs::metadata(&self.rt, "/proc/self/fd/1");
-        }
-        if fd == ERROR {
-            return fs::metadata(&self.rt, "/proc/self/fd/2");
-        }
-        let at = place_of(fd);
-        if at >= ROOM {
-            return Err(io::Error::from_raw_os_error(NOT_OPEN));
-        }
-        match &self.files[at] {
-            Some(file) => file.metadata(),
-            None => Err(io::Error::from_raw_os_error(NOT_OPEN)),
-        }
+    fn told_open(&self, fd: Fd) -> Result<Record, Failed> {
+        let m = match fd {
+            Fd::Input => fs::metadata(&self.rt, "/proc/self/fd/0"),
+            Fd::Output => fs::metadata(&self.rt, "/proc/self/fd/1"),
+            Fd::Error => fs::metadata(&self.rt, "/proc/self/fd/2"),
+            Fd::File(at) => self.file(at)?.metadata(),
+        };
+        Ok(Record::from(m?))
     }
 
-    // Fills the record where the system has told: 0, or -1 where it has not.
-    fn filled(&mut self, asked: io::Result<Metadata>, about: &mut Record) -> i32
-        ensures { result ≢ pos 0 → about.new ≡ about.old }
-    {
-        match asked {
-            Ok(m) => {
-                *about = told(&m);
-                0
-            }
-            Err(e) => {
-                self.failed(e);
-                -1
-            }
-        }
+    fn told_named(&self, path: &[u8]) -> Result<Record, Failed> {
+        let text = text_of(&path[..up_to_zero(path)])?;
+        Ok(Record::from(fs::metadata(&self.rt, text)?))
     }
 
-    // Fills the record with what is known of an open file: 0, or -1 and the record as it was.
-    pub fn stat_open(&mut self, fd: i32, about: &mut Record) -> i32
-        ensures { result ≢ pos 0 → about.new ≡ about.old }
-    {
-        let asked = self.metadata(fd);
-        self.filled(asked, about)
+    // What is known of an open file.
+    pub fn stat_open(&mut self, fd: Fd) -> Result<Record, Failed> {
+        let told = self.told_open(fd);
+        self.noted(told)
     }
 
     // The same of the file at a path, which goes up to its first 0, or at the end of the links there.
-    pub fn stat_named(&mut self, path: &[u8], about: &mut Record) -> i32
-        ensures { result ≢ pos 0 → about.new ≡ about.old }
-    {
-        let end = up_to_zero(path);
-        let asked = match text_of(&path[..end]) {
-            Ok(text) => fs::metadata(&self.rt, text),
-            Err(e) => Err(e),
-        };
-        self.filled(asked, about)
+    pub fn stat_named(&mut self, path: &[u8]) -> Result<Record, Failed> {
+        let told = self.told_named(path);
+        self.noted(told)
     }
 }

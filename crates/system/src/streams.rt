@@ -1,52 +1,43 @@
 // Standard streams that are closed.
-use crate::System;
+use crate::failing::Failed;
+use crate::{Fd, System};
 use std::fs::{File, OpenOptions};
-use std::io;
 use std::os::fd::AsRawFd;
 
 impl System {
-    fn null(&self, writes: bool) -> io::Result<File> {
+    fn null(&self, writes: bool) -> Result<File, Failed> {
         let mut how = OpenOptions::new();
         how.read(true).write(writes);
-        how.open(&self.rt, "/dev/null")
+        Ok(how.open(&self.rt, "/dev/null")?)
     }
 
     // A file that has become a standard stream stays open.
-    fn keep_low(&mut self, file: File) -> i32 {
-        let fd = file.as_raw_fd();
-        if fd == 0 {
-            self.files[0] = Some(file);
-        } else if fd == 1 {
-            self.files[1] = Some(file);
-        } else if fd == 2 {
-            self.files[2] = Some(file);
-        } else {
-            drop(file);
-        }
-        fd
+    fn keep_low(&mut self, file: File) -> Option<Fd> {
+        let (at, fd) = match file.as_raw_fd() {
+            0 => (0, Fd::Input),
+            1 => (1, Fd::Output),
+            2 => (2, Fd::Error),
+            _ => return None,
+        };
+        self.streams[at] = Some(file);
+        Some(fd)
     }
 
-    fn kept_low(&mut self, opened: io::Result<File>) -> i32 {
-        match opened {
-            Ok(file) => self.keep_low(file),
-            Err(e) => {
-                self.failed(e);
-                -1
-            }
-        }
+    fn filled(&mut self, writes: bool) -> Result<Option<Fd>, Failed> {
+        let file = self.null(writes)?;
+        Ok(self.keep_low(file))
     }
 
-    // Opens /dev/null in place of the first standard stream that is closed, and answers which that is: a
-    // number above 2 where none is closed, -1 where /dev/null cannot be opened. Such an input is empty, writing
-    // to such an output fails, and such a standard error is nowhere.
-    pub fn stand_in(&mut self) -> i32 {
-        let file = self.null(false);
-        let fd = self.kept_low(file);
-        if fd == 2 {
-            self.files[2] = None;
-            let file = self.null(true);
-            self.kept_low(file);
+    // Opens /dev/null in place of the first standard stream that is closed, and answers which that is, if one
+    // is closed; it fails where /dev/null cannot be opened. Such an input is empty, writing to such an output
+    // fails, and such a standard error is nowhere.
+    pub fn stand_in(&mut self) -> Result<Option<Fd>, Failed> {
+        let fd = self.filled(false);
+        if fd == Ok(Some(Fd::Error)) {
+            self.streams[2] = None;
+            let again = self.filled(true);
+            let _ = self.noted(again);
         }
-        fd
+        self.noted(fd)
     }
 }

@@ -19,13 +19,12 @@ fn failed(sys: &mut System, what: &[u8], name: &[u8]) -> bool {
 // Writes the table into the file of that name. It is closed before anything else is written, since it may
 // stand in the place of a standard stream that was closed.
 fn write_file(sys: &mut System, name: &[u8], table: &[f64]) -> bool {
-    let fd = sys.open_overwrite(name);
-    if fd < 0 {
+    let Ok(fd) = sys.open_overwrite(name) else {
         return failed(sys, b"table: cannot open ", name);
-    }
+    };
     let n = table.len();
     let written = written::write_frames(sys, fd, table, 1, n, 0, n);
-    let closed = sys.close(fd) == 0;
+    let closed = sys.close(fd).is_ok();
     if written & closed {
         return true;
     }
@@ -71,7 +70,7 @@ pub fn keep(sys: &mut System, w: Words, table: &[f64]) -> bool
 {
     let common = w.common;
     let mut word = io::buffer();
-    let n = sys.arg(common.out, &mut word);
+    let n = sys.arg(common.out, &mut word).unwrap_or(0);
     let file = file_facts::facts_at(sys, &word[..n]);
     if file_facts::same_file(file, file_facts::facts_of(sys, system::OUTPUT)) {
         sys.write_all(
@@ -98,11 +97,11 @@ pub fn write_status(sys: &mut System, w: Words, status: u64) {
         return;
     }
     let mut word = io::buffer();
-    let n = sys.arg(common.status, &mut word);
+    let n = sys.arg(common.status, &mut word).unwrap_or(0);
     let file = file_facts::facts_at(sys, &word[..n]);
-    if file.size > 2 {
+    if file.map_or(0, |facts| facts.size) > 2 {
         return;
     }
     let fd = sys.open_overwrite(&word[..n]);
-    programs::put_status(sys, fd, status);
+    programs::put_status(sys, fd.ok(), status);
 }

@@ -103,7 +103,7 @@ fn with_next(sys: &mut System, w: Words, at: usize) -> Words {
         return w;
     }
     let mut word = io::buffer();
-    let n = sys.arg(at, &mut word);
+    let n = sys.arg(at, &mut word).unwrap_or(0);
     with_word(sys, w, at, &word[..n])
 }
 

@@ -6,7 +6,7 @@ ghost use Rattle.std.specs.Prelude.{◌*◌, ◌≤◌, length};
 use options::{say, say_number, say_start};
 use printer::front_of;
 use samples::least;
-use system::System;
+use system::{Fd, System};
 
 // The next sample of each tone, and the one before it.
 #[derive(Clone, Copy)]
@@ -69,7 +69,7 @@ fn as_count(n: u64) -> usize {
     n as usize
 }
 
-fn write_some(sys: &mut System, fd: i32, bytes: &mut [u8], rest: Rest) -> Rest {
+fn write_some(sys: &mut System, fd: Fd, bytes: &mut [u8], rest: Rest) -> Rest {
     let frames = rest.frames;
     let first = rest.tones;
     let n = least(bytes.len() / 16, as_count(frames));
@@ -92,7 +92,7 @@ fn has_more(rest: Rest) -> bool {
 }
 
 // Writes the tones, and says how many frames of them there are; whether all went well.
-pub fn write_tones(sys: &mut System, frames: u64, fd: i32) -> bool {
+pub fn write_tones(sys: &mut System, frames: u64, fd: Fd) -> bool {
     let mut bytes = [0u8; 8192];
     let tones = first_tones();
     let mut rest = Rest {
@@ -111,11 +111,8 @@ pub fn write_tones(sys: &mut System, frames: u64, fd: i32) -> bool {
 }
 
 // What was written last may be lost only when the file is closed.
-fn is_closed(sys: &mut System, fd: i32) -> bool {
-    if fd > 2 {
-        return sys.close(fd) == 0;
-    }
-    true
+fn is_closed(sys: &mut System, fd: Fd) -> bool {
+    !fd.is_file() || sys.close(fd).is_ok()
 }
 
 fn tell_written(sys: &mut System, frames: u64, good: bool) {

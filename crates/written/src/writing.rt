@@ -6,7 +6,7 @@ ghost use Rattle.written.specs.Pieces.{Written};
 
 use printer::front_of;
 use samples::{gather, least, samples_in, takes};
-use system::System;
+use system::{Fd, System};
 
 // What was written: the samples from number `first` up to `last`, and whether all went well.
 #[derive(Clone, Copy)]
@@ -20,7 +20,7 @@ struct Writing {
 // written.
 fn write_piece(
     sys: &mut System,
-    fd: i32,
+    fd: Fd,
     bytes: &mut [u8],
     output: &[f64],
     channels: usize,
@@ -52,7 +52,7 @@ fn has_more(w: Writing, most: usize) -> bool
 // All of them from `first` up to `most`, or as many as could be written.
 fn write_pieces(
     sys: &mut System,
-    fd: i32,
+    fd: Fd,
     bytes: &mut [u8],
     output: &[f64],
     channels: usize,
@@ -79,7 +79,7 @@ fn write_pieces(
 // The samples of the frames from..to.
 fn write_range(
     sys: &mut System,
-    fd: i32,
+    fd: Fd,
     output: &[f64],
     channels: usize,
     share: usize,
@@ -99,7 +99,7 @@ fn write_range(
 // are where they have no place in the area.
 pub fn write_frames(
     sys: &mut System,
-    fd: i32,
+    fd: Fd,
     output: &[f64],
     channels: usize,
     share: usize,
