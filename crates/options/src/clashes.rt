@@ -101,7 +101,13 @@ fn has_passlog_clash(
 }
 
 // Whether the output, the log or the pass log is another file of the pass, before any is opened; it is told.
-pub fn has_clash(sys: &mut System, o: Options, input: Option<Facts>, plan: Option<Facts>, table: Option<Facts>) -> bool {
+pub fn has_clash(
+    sys: &mut System,
+    o: Options,
+    input: Option<Facts>,
+    plan: Option<Facts>,
+    table: Option<Facts>,
+) -> bool {
     let output = facts_in(sys, o.output, Some(system::OUTPUT));
     let log = facts_in(sys, o.log, Some(log_stream(o)));
     let by_output = role_of(o.output, OUTPUT_NAMES);

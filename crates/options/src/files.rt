@@ -20,13 +20,7 @@ pub struct Files {
     pub good: bool,
 }
 
-fn files_of(
-    input: Fd,
-    plan: Option<Fd>,
-    table: Option<Fd>,
-    input_bytes: u64,
-    good: bool,
-) -> Files {
+fn files_of(input: Fd, plan: Option<Fd>, table: Option<Fd>, input_bytes: u64, good: bool) -> Files {
     Files {
         input,
         output: None,
