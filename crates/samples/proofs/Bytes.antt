@@ -1,8 +1,8 @@
 -- A pattern and its eight bytes: the loop that puts them, and the pattern read back. Assumes nothing.
 use mathlib.Core.List.{List, [], ◌∷◌, ◌++◌}
 use mathlib.Core.Path.{◌≡◌, refl, sym, ap, ◌∙◌}
-use Prim.Native.Nat.{ℕ, zero, suc, ◌+◌, ◌-◌, ◌*◌, ◌/◌, ◌%◌, ◌^◌, ◌<◌, ◌≤◌}
-use native.Mathlib.Nat.{mod-one, mod-eq_of_lt, div-one, lt_of_lt_of_le, pow-le-pow_right}
+use Prim.Native.Nat.{ℕ, zero, suc, ◌+◌, ◌*◌, ◌/◌, ◌%◌, ◌^◌, ◌<◌, ◌≤◌}
+use native.Mathlib.Nat.{mod-one, mod-eq_of_lt, div-one}
 use native.Mathlib.Numerals.{add-one}
 use native.Mathlib.Omega.{arith}
 use lib.Arith.{mod-mul}
@@ -10,6 +10,9 @@ use lib.Dec.{lit<}
 use lib.Pow.{pow_pos, pow-add, shr-shr}
 use lib.ListN.{length, get_or, set, take, drop, length-set, get_or-append}
 use lib.Seq.{paste, paste-zero, paste-suc, length_paste_head, length-take-le, get_or-append-add, get_or-take}
+use Rattle.std.specs.Int.{w64, from_le_bytes}
+use Rattle.std.specs.List.{between}
+use Rattle.std.proofs.lemmas.List.Edits.{get_or-between}
 use Rattle.samples.specs.Samples.{little_from, little_at, bytes_from, eight_of}
 
 pub length_bytes : (n j k : ℕ) → length (bytes_from n j k) ≡ k
@@ -27,33 +30,21 @@ byte_at n j (suc k) (suc i) l =
     let e : j + 1 + i ≡ j + suc i = omega arith in
     byte_at n (j + 1) k i (omega arith) ∙ ap (λ (i : ℕ). n / 2 ^ (8 * i) % 256) e
 
--- ---- n is the number of the last k of the eight bytes at a place
-pub record Joins (bs : List ℕ) (at n k : ℕ) : Type 0 where
-  pub small : n < 256 ^ k
-  pub is : (p : ℕ) → p + k ≡ at + 8 → n ≡ little_from bs p k
-
-pub joins_none : (bs : List ℕ) (at : ℕ) → Joins bs at 0 0
+-- ---- the number of eight bytes that stand at a place, as the library puts it together
+pub eight_join : (bs l : List ℕ) (at : ℕ) → l ≡ between at (at + 8) bs → from_le_bytes w64 l ≡ little_at bs at
 unfolding little_from
-joins_none bs at = record { small = lit< tt; is = λ p e. refl }
-
-pub joins_next : (bs : List ℕ) (at n k b : ℕ) → Joins bs at n k → k < 8 → b ≡ get_or bs (at + 7 - k) 0 → b < 256 → Joins bs at (b + 256 * n) (k + 1)
-unfolding little_from
-joins_next bs at n k b j l e s =
-    let wide : 256 ^ (k + 1) ≡ 256 ^ k * 256 = pow-add 256 k 1 in
-    record {
-      small = omega (arith, j.small);
-      is =
-          λ p q.
-          let here : at + 7 - k ≡ p = omega arith in
-          rw (e, here, j.is (p + 1) (omega arith), add-one k);
-    }
-
--- seven bytes leave room for one more
-pub joins_fits : (n k : ℕ) → n < 256 ^ k → k < 8 → n < 72057594037927936
-joins_fits n k h l = lt_of_lt_of_le h (pow-le-pow_right {n = 256} (lit< tt) {i = k} {j = 7} (omega arith))
-
-pub joins_done : (bs : List ℕ) (at n k : ℕ) → Joins bs at n k → k ≡ 8 → n ≡ little_at bs at
-joins_done bs at n k j e = j.is at (omega arith) ∙ ap (little_from bs at) e
+eight_join bs l at e =
+    let b : (k p : ℕ) → k < 8 → p ≡ at + k → get_or l k 0 ≡ get_or bs p 0 =
+    λ k p h q. ap (λ (m : List ℕ). get_or m k 0) e ∙ get_or-between bs at (at + 8) k 0 (omega arith) ∙ ap (λ (i : ℕ). get_or bs i 0) (sym q) in
+    let b₀ = b 0 at (lit< tt) (omega arith) in
+    let b₁ = b 1 (at + 1) (lit< tt) (omega arith) in
+    let b₂ = b 2 (at + 1 + 1) (lit< tt) (omega arith) in
+    let b₃ = b 3 (at + 1 + 1 + 1) (lit< tt) (omega arith) in
+    let b₄ = b 4 (at + 1 + 1 + 1 + 1) (lit< tt) (omega arith) in
+    let b₅ = b 5 (at + 1 + 1 + 1 + 1 + 1) (lit< tt) (omega arith) in
+    let b₆ = b 6 (at + 1 + 1 + 1 + 1 + 1 + 1) (lit< tt) (omega arith) in
+    let b₇ = b 7 (at + 1 + 1 + 1 + 1 + 1 + 1 + 1) (lit< tt) (omega arith) in
+    omega arith
 
 -- ---- x is d with the first k of the w bytes of n from the place at on
 pub record Put (d : List ℕ) (at n w : ℕ) (x : List ℕ) (k : ℕ) : Type 0 where

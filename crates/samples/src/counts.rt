@@ -5,7 +5,7 @@ ghost use Rattle.samples.specs.Counts.{taken};
 pub fn least(a: usize, b: usize) -> usize
     ensures { result ≡ min a b }
 {
-    if a < b { a } else { b }
+    a.min(b)
 }
 
 // The samples of so many frames, of which there are few enough that the product fits. Only our own

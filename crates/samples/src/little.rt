@@ -6,22 +6,14 @@ ghost use Rattle.std.specs.Float.Ieee.{to_bits};
 ghost use Rattle.std.proofs.Math.Seq.{paste};
 ghost use Rattle.samples.specs.Samples.{sample_at, bytes_from, eight_of};
 
-fn wide(byte: u8) -> u64
-    ensures { (result ≡ byte) × (result < 256) }
-{
-    byte as u64
-}
-
 // The sample whose bytes start at `at`.
 pub fn sample_at(bytes: &[u8], at: usize) -> f64
     requires { at + 8 ≤ length bytes.now }
     ensures { result ≡ sample_at bytes.now at }
 {
-    let mut n: u64 = 0;
-    for k in 0..8 {
-        n = wide(bytes[at + 7 - k]) + 256 * n;
-    }
-    text::of_bits(n)
+    let mut eight = [0u8; 8];
+    eight.copy_from_slice(&bytes[at..at + 8]);
+    text::of_bits(u64::from_le_bytes(eight))
 }
 
 // Puts the lowest `width` bytes of n at the place `at` and those after it.

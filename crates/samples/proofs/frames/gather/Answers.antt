@@ -1,5 +1,4 @@
 -- `samples::frames::gather` meets its contract: each turn puts one channel's samples more. Assumes nothing.
-use Prim.Native.Nat.{◌-◌}
 use native.Mathlib.Omega.{arith}
 use Rattle.samples.proofs.Loops.{gather_next, gather_done}
 use Rattle.samples.proofs.Order.{went_none, turn_none, turn_done}

@@ -12,7 +12,7 @@ abbrev pub decreases-loop-j : goal.decreases-loop-j
 decreases-loop-j l = l.n - l.j
 
 abbrev pub invariant-loop-i : goal.invariant-loop-i
-invariant-loop-i l = (l.i ≤ l.turns) × Went l.channels (writing l.channels l.share l.first l.area) l.n l.initial.bytes l.bytes l.i l.i
+invariant-loop-i l = (l.i ≤ l.i-end) × Went l.channels (writing l.channels l.share l.first l.area) l.n l.initial.bytes l.bytes l.i l.i
 
 abbrev pub decreases-loop-i : goal.decreases-loop-i
-decreases-loop-i l = l.turns - l.i
+decreases-loop-i l = l.i-end - l.i

@@ -1,5 +1,4 @@
 -- `samples::frames::spread` meets its contract: each turn places one channel's samples more. Assumes nothing.
-use Prim.Native.Nat.{◌-◌}
 use native.Mathlib.Omega.{arith}
 use Rattle.samples.proofs.Loops.{spread_next, spread_done}
 use Rattle.samples.proofs.Order.{went_none, turn_none, turn_done}

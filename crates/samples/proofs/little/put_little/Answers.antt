@@ -1,6 +1,5 @@
 -- `samples::little::put_little` meets its contract: each turn puts one byte more. Assumes nothing.
 use mathlib.Core.Path.{refl}
-use Prim.Native.Nat.{◌-◌}
 use native.Mathlib.Omega.{arith}
 use Rattle.samples.proofs.Bytes.{put_none, put_next, put_done}
 use Rattle.samples.proofs.little.put_little.Goals as goal
