@@ -6,6 +6,6 @@ mod common;
 mod status;
 mod streams;
 
-pub use common::{Common, bad, complete, is_common, is_file, no_words, with_word};
+pub use common::{Common, Name, is_file};
 pub use status::put_status;
 pub use streams::fill_low;

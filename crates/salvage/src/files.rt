@@ -42,12 +42,9 @@ fn open_out(sys: &mut System, at: usize) -> Option<Fd> {
 }
 
 // What the system tells of the file that the word at the place `at` names: nothing where there is no word.
-fn facts_in(sys: &mut System, at: usize) -> Option<Facts> {
-    if at == 0 {
-        return None;
-    }
+fn facts_in(sys: &mut System, at: Option<usize>) -> Option<Facts> {
     let mut word = io::buffer();
-    let n = sys.arg(at, &mut word).unwrap_or(0);
+    let n = sys.arg(at?, &mut word).unwrap_or(0);
     if check::same(&word[..n], b"-") {
         return file_facts::facts_of(sys, system::INPUT);
     }
@@ -55,10 +52,10 @@ fn facts_in(sys: &mut System, at: usize) -> Option<Facts> {
 }
 
 // Whether two words are one name, of a file that may not be there yet.
-fn is_same_name(sys: &mut System, a: usize, b: usize) -> bool {
-    if (a == 0) | (b == 0) {
+fn is_same_name(sys: &mut System, a: Option<usize>, b: Option<usize>) -> bool {
+    let (Some(a), Some(b)) = (a, b) else {
         return false;
-    }
+    };
     let mut first = io::buffer();
     let mut second = io::buffer();
     let n = sys.arg(a, &mut first).unwrap_or(0);
@@ -107,13 +104,13 @@ fn size_of(log: Option<Facts>) -> u64 {
 // that is told, and there are none.
 pub fn open_files(sys: &mut System, w: Words) -> Option<Files> {
     programs::fill_low(sys);
-    let input = open_log(sys, w.file)?;
+    let input = open_log(sys, w.file?)?;
     let log = file_facts::facts_of(sys, input);
     let common = w.common;
     if has_clash(sys, common, log) {
         return None;
     }
-    let output = open_out(sys, common.out)?;
+    let output = open_out(sys, common.out?)?;
     Some(Files {
         input,
         output,
@@ -135,14 +132,13 @@ fn is_status_taken(sys: &mut System, w: Words) -> bool {
 // Writes the status and a line feed into the file that --status names, if one is named and it is no other
 // file of the run.
 pub fn write_status(sys: &mut System, w: Words, status: u64) {
-    let common = w.common;
-    if common.status == 0 {
+    let Some(status_at) = w.common.status else {
         return;
-    }
+    };
     programs::fill_low(sys);
     if is_status_taken(sys, w) {
         return;
     }
-    let fd = open_out(sys, common.status);
+    let fd = open_out(sys, status_at);
     programs::put_status(sys, fd, status);
 }

@@ -2,10 +2,10 @@
 use programs::Common;
 use system::System;
 
-// The place of the log's name, 0 where none is given, and the other words.
+// The place of the log's name, and the other words.
 #[derive(Clone, Copy)]
 pub struct Words {
-    pub file: usize,
+    pub file: Option<usize>,
     pub common: Common,
 }
 
@@ -17,18 +17,17 @@ fn with_common(w: Words, common: Common) -> Words {
 
 // Says what is wrong with a word.
 fn bad(sys: &mut System, w: Words, what: &[u8], word: &[u8]) -> Words {
-    let common = w.common;
-    with_common(w, programs::bad(sys, common, b"salvage", what, word))
+    with_common(w, w.common.bad(sys, b"salvage", what, word))
 }
 
 // The log's name, at the place `at`.
 fn with_log(sys: &mut System, w: Words, at: usize, word: &[u8]) -> Words {
-    if w.file > 0 {
+    if w.file.is_some() {
         return bad(sys, w, b": one word too many: `", word);
     }
     if programs::is_file(word) | check::same(word, b"-") {
         let mut s = w;
-        s.file = at;
+        s.file = Some(at);
         return s;
     }
     bad(
@@ -41,8 +40,8 @@ fn with_log(sys: &mut System, w: Words, at: usize, word: &[u8]) -> Words {
 
 fn with_word(sys: &mut System, w: Words, at: usize, word: &[u8]) -> Words {
     let common = w.common;
-    if programs::is_common(common, word) {
-        return with_common(w, programs::with_word(sys, common, b"salvage", at, word));
+    if common.takes(word) {
+        return with_common(w, common.with_word(sys, b"salvage", at, word));
     }
     with_log(sys, w, at, word)
 }
@@ -61,10 +60,9 @@ fn with_next(sys: &mut System, w: Words, at: usize) -> Words {
 // Whether nothing is missing behind the last word.
 fn complete(sys: &mut System, w: Words) -> Words {
     let common = w.common;
-    let whole = programs::complete(
+    let whole = common.complete(
         sys,
-        common,
-        w.file == 0,
+        w.file.is_none(),
         b"salvage",
         b": a word is missing (--help says more); wanted are FILE --out FILE, as in `",
         b"pass.log --out good.log",
@@ -75,8 +73,8 @@ fn complete(sys: &mut System, w: Words) -> Words {
 // All the words. What is wrong with them is told.
 pub fn read_words(sys: &mut System) -> Words {
     let mut w = Words {
-        file: 0,
-        common: programs::no_words(),
+        file: None,
+        common: Common::default(),
     };
     for at in 1..sys.arg_count() {
         w = with_next(sys, w, at);

@@ -67,12 +67,9 @@ pub fn open_out(sys: &mut System, at: usize) -> Option<Fd> {
 }
 
 // What the system tells of the file that the word at the place `at` names: nothing where there is no word.
-fn facts_in(sys: &mut System, at: usize) -> Option<Facts> {
-    if at == 0 {
-        return None;
-    }
+fn facts_in(sys: &mut System, at: Option<usize>) -> Option<Facts> {
     let mut word = io::buffer();
-    let n = sys.arg(at, &mut word).unwrap_or(0);
+    let n = sys.arg(at?, &mut word).unwrap_or(0);
     if check::same(&word[..n], b"-") {
         return file_facts::facts_of(sys, system::INPUT);
     }
@@ -80,10 +77,10 @@ fn facts_in(sys: &mut System, at: usize) -> Option<Facts> {
 }
 
 // Whether two words are one name, of a file that may not be there yet.
-fn is_same_name(sys: &mut System, a: usize, b: usize) -> bool {
-    if (a == 0) | (b == 0) {
+fn is_same_name(sys: &mut System, a: Option<usize>, b: Option<usize>) -> bool {
+    let (Some(a), Some(b)) = (a, b) else {
         return false;
-    }
+    };
     let mut first = io::buffer();
     let mut second = io::buffer();
     let n = sys.arg(a, &mut first).unwrap_or(0);
@@ -92,7 +89,7 @@ fn is_same_name(sys: &mut System, a: usize, b: usize) -> bool {
 }
 
 // Whether two words name one file.
-fn is_one(sys: &mut System, a: usize, b: usize) -> bool {
+fn is_one(sys: &mut System, a: Option<usize>, b: Option<usize>) -> bool {
     is_same(facts_in(sys, a), facts_in(sys, b)) | is_same_name(sys, a, b)
 }
 
@@ -107,15 +104,15 @@ fn is_told(sys: &mut System, same: bool, what: &[u8]) -> bool {
 }
 
 // Whether the file is one of the logs.
-fn is_some_log(sys: &mut System, w: Words, file: usize) -> bool {
+fn is_some_log(sys: &mut System, w: Words, file: Option<usize>) -> bool {
     let mut found = false;
     for at in 1..sys.arg_count() {
-        found = found | (is_log(sys, w, at) & is_one(sys, file, at));
+        found = found | (is_log(sys, w, at) & is_one(sys, file, Some(at)));
     }
     found
 }
 
-fn is_output(sys: &mut System, file: usize) -> bool {
+fn is_output(sys: &mut System, file: Option<usize>) -> bool {
     file_facts::same_file(
         facts_in(sys, file),
         file_facts::facts_of(sys, system::OUTPUT),
@@ -125,7 +122,7 @@ fn is_output(sys: &mut System, file: usize) -> bool {
 // Whether the picture's file is another file of the run, before any is opened; it is told.
 pub fn has_clash(sys: &mut System, w: Words) -> bool {
     let common = w.common;
-    if w.picture == 0 {
+    if w.picture.is_none() {
         return false;
     }
     let log = is_some_log(sys, w, w.picture);
@@ -141,9 +138,9 @@ pub fn has_clash(sys: &mut System, w: Words) -> bool {
 // file of the run.
 pub fn write_status(sys: &mut System, w: Words, status: u64) {
     let common = w.common;
-    if common.status == 0 {
+    let Some(status_at) = common.status else {
         return;
-    }
+    };
     programs::fill_low(sys);
     let taken = is_some_log(sys, w, common.status) | is_one(sys, w.picture, common.status);
     if taken
@@ -154,6 +151,6 @@ pub fn write_status(sys: &mut System, w: Words, status: u64) {
     {
         return;
     }
-    let fd = open_out(sys, common.status);
+    let fd = open_out(sys, status_at);
     programs::put_status(sys, fd, status);
 }

@@ -89,7 +89,7 @@ picture is a log, standard output or the --status file: then no file is written.
 
 // Reads the logs and draws the picture, where one is asked for; whether all is well.
 fn is_well(sys: &mut System, w: Words) -> bool {
-    let mut chart = if w.picture > 0 {
+    let mut chart = if w.picture.is_some() {
         Some(Chart::new())
     } else {
         None
@@ -99,12 +99,12 @@ fn is_well(sys: &mut System, w: Words) -> bool {
     let sheet = page.sheet;
     let total = sheet.total;
     let well = page.good & page.whole & page.inside;
-    match &mut chart {
-        None => well,
-        Some(c) => {
-            let drawn = picture::draw(sys, w.picture, w.logs, total, c);
+    match (w.picture, &mut chart) {
+        (Some(word), Some(c)) => {
+            let drawn = picture::draw(sys, word, w.logs, total, c);
             well & drawn
         }
+        _ => well,
     }
 }
 

@@ -2,13 +2,13 @@
 use programs::Common;
 use system::System;
 
-// How many logs are named, and whether standard input is one; the place of the picture's name, 0 where none
-// is given, and whether it is wanted next; and the other words.
+// How many logs are named, and whether standard input is one; the place of the picture's name, and
+// whether it is wanted next; and the other words.
 #[derive(Clone, Copy)]
 pub struct Words {
     pub logs: usize,
     pub input: bool,
-    pub picture: usize,
+    pub picture: Option<usize>,
     pub wants: bool,
     pub common: Common,
 }
@@ -21,8 +21,7 @@ fn with_common(w: Words, common: Common) -> Words {
 
 // Says what is wrong with a word.
 fn bad(sys: &mut System, w: Words, what: &[u8], word: &[u8]) -> Words {
-    let common = w.common;
-    with_common(w, programs::bad(sys, common, b"sheet", what, word))
+    with_common(w, w.common.bad(sys, b"sheet", what, word))
 }
 
 // A log's name.
@@ -61,13 +60,13 @@ fn with_picture(sys: &mut System, w: Words, at: usize, word: &[u8]) -> Words {
         );
     }
     let mut s = w;
-    s.picture = at;
+    s.picture = Some(at);
     s.wants = false;
     s
 }
 
 fn with_name(sys: &mut System, w: Words, word: &[u8]) -> Words {
-    if w.picture > 0 {
+    if w.picture.is_some() {
         return bad(sys, w, b": this is given twice: `", word);
     }
     let mut s = w;
@@ -80,14 +79,14 @@ fn with_word(sys: &mut System, w: Words, at: usize, word: &[u8]) -> Words {
     if w.wants {
         return with_picture(sys, w, at, word);
     }
-    if common.wants > 0 {
-        return with_common(w, programs::with_word(sys, common, b"sheet", at, word));
+    if common.wants.is_some() {
+        return with_common(w, common.with_word(sys, b"sheet", at, word));
     }
     if check::same(word, b"--picture") {
         return with_name(sys, w, word);
     }
-    if programs::is_common(common, word) & !check::same(word, b"--out") {
-        return with_common(w, programs::with_word(sys, common, b"sheet", at, word));
+    if common.takes(word) & !check::same(word, b"--out") {
+        return with_common(w, common.with_word(sys, b"sheet", at, word));
     }
     with_log(sys, w, word)
 }
@@ -107,7 +106,7 @@ fn with_next(sys: &mut System, w: Words, at: usize) -> Words {
 fn complete(sys: &mut System, w: Words) -> Words {
     let common = w.common;
     let lacks = (w.logs == 0) & !common.help;
-    if common.good & (lacks | w.wants | (common.wants > 0)) {
+    if common.good & (lacks | w.wants | (common.wants.is_some())) {
         return bad(
             sys,
             w,
@@ -124,7 +123,7 @@ pub fn is_log(sys: &mut System, w: Words, at: usize) -> bool {
     let mut word = io::buffer();
     let n = sys.arg(at, &mut word).unwrap_or(0);
     let names = programs::is_file(&word[..n]) | check::same(&word[..n], b"-");
-    names & (at != w.picture) & (at != common.status)
+    names & (Some(at) != w.picture) & (Some(at) != common.status)
 }
 
 // All the words. What is wrong with them is told.
@@ -132,9 +131,9 @@ pub fn read_words(sys: &mut System) -> Words {
     let mut w = Words {
         logs: 0,
         input: false,
-        picture: 0,
+        picture: None,
         wants: false,
-        common: programs::no_words(),
+        common: Common::default(),
     };
     for at in 1..sys.arg_count() {
         w = with_next(sys, w, at);

@@ -68,9 +68,11 @@ fn write_line(sys: &mut System, w: Words, table: &[f64]) -> bool {
 pub fn keep(sys: &mut System, w: Words, table: &[f64]) -> bool
     requires { table.now ≡ sincs_table w.points w.factor w.cutoff w.window }
 {
-    let common = w.common;
+    let Some(out) = w.common.out else {
+        return false;
+    };
     let mut word = io::buffer();
-    let n = sys.arg(common.out, &mut word).unwrap_or(0);
+    let n = sys.arg(out, &mut word).unwrap_or(0);
     let file = file_facts::facts_at(sys, &word[..n]);
     if file_facts::same_file(file, file_facts::facts_of(sys, system::OUTPUT)) {
         sys.write_all(
@@ -92,12 +94,11 @@ pub fn keep(sys: &mut System, w: Words, table: &[f64]) -> bool
 // Writes the status and a line feed into the file that --status names, if one is common. A file that holds
 // more than a status is left as it is: it may be the table.
 pub fn write_status(sys: &mut System, w: Words, status: u64) {
-    let common = w.common;
-    if common.status == 0 {
+    let Some(status_at) = w.common.status else {
         return;
-    }
+    };
     let mut word = io::buffer();
-    let n = sys.arg(common.status, &mut word).unwrap_or(0);
+    let n = sys.arg(status_at, &mut word).unwrap_or(0);
     let file = file_facts::facts_at(sys, &word[..n]);
     if file.map_or(0, |facts| facts.size) > 2 {
         return;

@@ -23,8 +23,7 @@ fn with_common(w: Words, common: Common) -> Words {
 
 // Says what is wrong with a word.
 fn bad(sys: &mut System, w: Words, what: &[u8], word: &[u8]) -> Words {
-    let common = w.common;
-    with_common(w, programs::bad(sys, common, b"table", what, word))
+    with_common(w, w.common.bad(sys, b"table", what, word))
 }
 
 fn with_count(sys: &mut System, w: Words, word: &[u8]) -> Words {
@@ -84,8 +83,8 @@ fn with_window(sys: &mut System, w: Words, word: &[u8]) -> Words {
 
 fn with_word(sys: &mut System, w: Words, at: usize, word: &[u8]) -> Words {
     let common = w.common;
-    if programs::is_common(common, word) {
-        return with_common(w, programs::with_word(sys, common, b"table", at, word));
+    if common.takes(word) {
+        return with_common(w, common.with_word(sys, b"table", at, word));
     }
     let k = w.plain;
     match k {
@@ -110,9 +109,8 @@ fn with_next(sys: &mut System, w: Words, at: usize) -> Words {
 // Whether nothing is missing behind the last word.
 fn complete(sys: &mut System, w: Words) -> Words {
     let common = w.common;
-    let whole = programs::complete(
+    let whole = common.complete(
         sys,
-        common,
         w.plain < 4,
         b"table",
         b": a word is missing (--help says more); wanted are POINTS FACTOR CUTOFF WINDOW --out FILE, as in `",
@@ -129,7 +127,7 @@ pub fn read_words(sys: &mut System) -> Words {
         factor: 0,
         cutoff: 0.0,
         window: WindowFunction::Hann,
-        common: programs::no_words(),
+        common: Common::default(),
     };
     for at in 1..sys.arg_count() {
         w = with_next(sys, w, at);
