@@ -5,10 +5,11 @@ use Prim.Native.Nat.{ℕ, ◌+◌, ◌≤◌}
 use native.Mathlib.Omega.{arith}
 use lib.ListN.{length, take, drop, length-append, drop_of_length-le}
 use lib.Seq.{paste, take_at, drop-append-add, drop-drop, take_all}
+use Rattle.std.specs.Prelude.{Result}
 use Rattle.samples.specs.Samples.{bytes_from}
 use Rattle.samples.proofs.Bytes.{length_bytes}
 use Rattle.log_writer.specs.Writer.{said_put, put_said, put_area}
-use Rattle.log_writer.specs.declared.Put.{Put}
+use Rattle.log_writer.specs.declared.Refused.{Refused}
 
 -- x is d with the n bytes of w at its front
 pub record Front (d w x : List ℕ) (n : ℕ) : Type 0 where
@@ -37,6 +38,6 @@ pub front_done : (d w x : List ℕ) (n : ℕ) → Front d w x n → length d ≤
 front_done d w x n f h = f.is ∙ ap (λ (q : List ℕ). w ++ q) (drop_of_length-le d h) ∙ append-nil w
 
 -- a record of these bytes is one of those that they are
-pub of_payload : (kind : ℕ) (p payload out : List ℕ) (r : Put) (z : List ℕ) → p ≡ payload → (said_put r ≡ put_said kind p (length out)) × (z ≡ put_area kind p out)
+pub of_payload : (kind : ℕ) (p payload out : List ℕ) (r : Result ℕ Refused) (z : List ℕ) → p ≡ payload → (said_put r ≡ put_said kind p (length out)) × (z ≡ put_area kind p out)
     → (said_put r ≡ put_said kind payload (length out)) × (z ≡ put_area kind payload out)
 of_payload kind p payload out r z e h = subst (λ (q : List ℕ). (said_put r ≡ put_said kind q (length out)) × (z ≡ put_area kind q out)) e h

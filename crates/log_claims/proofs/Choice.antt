@@ -13,7 +13,7 @@ use Rattle.log_records.specs.Records.{two_at, agrees, record_length}
 use Rattle.log_records.proofs.Places.{stands}
 use Rattle.log_claims.proofs.Local.{more_agrees}
 use Rattle.log_salvage.specs.declared.Stretch.{Stretch}
-use Rattle.log_salvage.specs.declared.Stretch.TheVariants.{Skipped, Kept, End}
+use Rattle.log_salvage.specs.declared.Stretch.TheVariants.{Skipped, Kept}
 use Rattle.log_claims.specs.Listing.{listing}
 use Rattle.log_claims.specs.Claims.{Listed, Cover, IsKept, IsSkipped, Walk, Good, AllGood, joined, kept_all}
 use Rattle.log_claims.proofs.Walks.{listing_walks, kept_length}
@@ -22,12 +22,10 @@ use Rattle.log_claims.proofs.Walks.{listing_walks, kept_length}
 abbrev start_of : Stretch → ℕ
 start_of (Skipped at n) = at
 start_of (Kept at n) = at
-start_of End = 0
 
 abbrev kept? : Stretch → Bool
 kept? (Skipped at n) = false
 kept? (Kept at n) = true
-kept? End = false
 
 -- ---- there is one walk
 one_length : (log : List ℕ) (at n m : ℕ) → IsSkipped log at n → IsSkipped log at m → m ≤ n
@@ -49,28 +47,23 @@ unfolding Walk
 walk_one log at [] [] a b = refl
 walk_one log at [] (Kept p n ∷ m) a b = absurd (omega (arith, b.1.0.whole, b.1.0.some))
 walk_one log at [] (Skipped p n ∷ m) a b = absurd (omega (arith, b.1.0.whole, b.1.0.some))
-walk_one log at [] (End ∷ m) a b = absurd b
-walk_one log at (End ∷ l) m a b = absurd a
 walk_one log at (Kept p n ∷ l) [] a b = absurd (omega (arith, a.1.0.whole, a.1.0.some))
 walk_one log at (Kept p n ∷ l) (Kept q k ∷ m) a b =
     let same : n ≡ k = a.1.0.long ∙ sym b.1.0.long in
     let place : p ≡ q = a.0 ∙ sym b.0 in
     ap (λ (i : ℕ). Kept i n ∷ l) place ∙ ap (λ (i : ℕ). Kept q i ∷ l) same ∙ ap (λ (t : List Stretch). Kept q k ∷ t) (walk_one log (at + n) l m a.1.1 (subst (λ (i : ℕ). Walk log (at + i) m) (sym same) b.1.1))
 walk_one log at (Kept p n ∷ l) (Skipped q k ∷ m) a b = absurd (kept_skipped log at n k a.1.0 b.1.0)
-walk_one log at (Kept p n ∷ l) (End ∷ m) a b = absurd b
 walk_one log at (Skipped p n ∷ l) [] a b = absurd (omega (arith, a.1.0.whole, a.1.0.some))
 walk_one log at (Skipped p n ∷ l) (Kept q k ∷ m) a b = absurd (kept_skipped log at k n b.1.0 a.1.0)
 walk_one log at (Skipped p n ∷ l) (Skipped q k ∷ m) a b =
     let same : n ≡ k = omega (arith, one_length log at n k a.1.0 b.1.0, one_length log at k n b.1.0 a.1.0) in
     let place : p ≡ q = a.0 ∙ sym b.0 in
     ap (λ (i : ℕ). Skipped i n ∷ l) place ∙ ap (λ (i : ℕ). Skipped q i ∷ l) same ∙ ap (λ (t : List Stretch). Skipped q k ∷ t) (walk_one log (at + n) l m a.1.1 (subst (λ (i : ℕ). Walk log (at + i) m) (sym same) b.1.1))
-walk_one log at (Skipped p n ∷ l) (End ∷ m) a b = absurd b
 
 -- ---- what a walk lists as kept is a record
 abbrev long_of : Stretch → ℕ
 long_of (Skipped at n) = n
 long_of (Kept at n) = n
-long_of End = 0
 
 pub listed_is : (log : List ℕ) (at : ℕ) (l : List Stretch) (p n : ℕ) → Walk log at l → Listed (Kept p n) l → IsKept log p n
 unfolding Walk Listed
@@ -82,7 +75,6 @@ listed_is log at (Kept q k ∷ l) p n w (inl e) =
 listed_is log at (Kept q k ∷ l) p n w (inr h) = listed_is log (at + k) l p n w.1.1 h
 listed_is log at (Skipped q k ∷ l) p n w (inl e) = absurd (true≢false (ap kept? e))
 listed_is log at (Skipped q k ∷ l) p n w (inr h) = listed_is log (at + k) l p n w.1.1 h
-listed_is log at (End ∷ l) p n w h = absurd w
 
 -- ---- no two kept records share a byte
 later : (log : List ℕ) (at : ℕ) (l : List Stretch) (p n : ℕ) → Walk log at l → Listed (Kept p n) l → at ≤ p
@@ -92,12 +84,10 @@ later log at (Kept q k ∷ l) p n w (inl e) = let s : p ≡ q = ap start_of e in
 later log at (Kept q k ∷ l) p n w (inr h) = let b = later log (at + k) l p n w.1.1 h in omega arith
 later log at (Skipped q k ∷ l) p n w (inl e) = absurd (true≢false (ap kept? e))
 later log at (Skipped q k ∷ l) p n w (inr h) = let b = later log (at + k) l p n w.1.1 h in omega arith
-later log at (End ∷ l) p n w h = absurd w
 
 pub apart : (log : List ℕ) (at : ℕ) (l : List Stretch) (p n q m : ℕ) → Walk log at l → Listed (Kept p n) l → Listed (Kept q m) l → q < p → p < q + m → ⊥
 unfolding Walk Listed
 apart log at [] p n q m w h k a b = h
-apart log at (End ∷ l) p n q m w h k a b = w
 apart log at (Skipped r i ∷ l) p n q m w (inl e) k a b = true≢false (ap kept? e)
 apart log at (Skipped r i ∷ l) p n q m w (inr h) (inl e) a b = true≢false (ap kept? e)
 apart log at (Skipped r i ∷ l) p n q m w (inr h) (inr k) a b = apart log (at + i) l p n q m w.1.1 h k a b
@@ -109,7 +99,6 @@ apart log at (Kept r i ∷ l) p n q m w (inr h) (inl f) a b =
     sum_of_two : Stretch → ℕ
     sum_of_two (Skipped x y) = 0
     sum_of_two (Kept x y) = x + y
-    sum_of_two End = 0
 apart log at (Kept r i ∷ l) p n q m w (inr h) (inr k) a b = apart log (at + i) l p n q m w.1.1 h k a b
 
 -- ---- a record that no kept one covers is kept
@@ -162,7 +151,6 @@ module _ (log : List ℕ) (p : ℕ) (y : agrees (drop p log) ≡ true) where
   kept_or_covered : (at : ℕ) (l : List Stretch) → Walk log at l → at ≤ p → Listed wanted l ⊎ Cover l p
   unfolding Walk
   kept_or_covered at [] w h = absurd (omega (arith, inside))
-  kept_or_covered at (End ∷ l) w h = absurd w
   kept_or_covered at (Kept q n ∷ l) w h = past_kept at q n l h w.0 w.1.0 (λ k. kept_or_covered (at + n) l w.1.1 k)
   kept_or_covered at (Skipped q n ∷ l) w h = behind (Skipped q n) l (kept_or_covered (at + n) l w.1.1 (past_skipped at n h w.1.0))
 

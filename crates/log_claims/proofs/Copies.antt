@@ -10,7 +10,7 @@ use Rattle.log_records.specs.Records.{two_at, is_kind, record_of}
 use Rattle.log_records.proofs.Places.{stands}
 use Rattle.log_claims.proofs.Local.{alone_agrees}
 use Rattle.log_salvage.specs.declared.Stretch.{Stretch}
-use Rattle.log_salvage.specs.declared.Stretch.TheVariants.{Skipped, Kept, End}
+use Rattle.log_salvage.specs.declared.Stretch.TheVariants.{Skipped, Kept}
 use Rattle.log_claims.specs.Listing.{stretches_from, listing, copy_of, salvaged}
 use Rattle.log_claims.specs.Claims.{IsKept, Walk, Good, AllGood, joined, kept_all, kept_parts}
 use Rattle.log_claims.proofs.ReadBack.{record_agrees, record_length_lem, length_back}
@@ -57,7 +57,6 @@ unfolding copy_of joined kept_parts
 copy_joined log [] = refl
 copy_joined log (Kept at n ∷ l) = ap (λ (q : List ℕ). take n (drop at log) ++ q) (copy_joined log l)
 copy_joined log (Skipped at n ∷ l) = copy_joined log l
-copy_joined log (End ∷ l) = copy_joined log l
 
 good_part : (log : List ℕ) (at p n : ℕ) → p ≡ at → IsKept log at n → Good (take n (drop p log))
 good_part log at p n e k =
@@ -76,7 +75,6 @@ unfolding Walk kept_parts AllGood
 parts_good log at [] w = tt
 parts_good log at (Kept p n ∷ l) w = (good_part log at p n w.0 w.1.0, parts_good log (at + n) l w.1.1)
 parts_good log at (Skipped p n ∷ l) w = parts_good log (at + n) l w.1.1
-parts_good log at (End ∷ l) w = absurd w
 
 pub again_kept : (log : List ℕ) → listing (salvaged log) ≡ kept_all 0 (kept_parts log (listing log))
 again_kept log = ap listing (copy_joined log (listing log)) ∙ alone_kept (kept_parts log (listing log)) (parts_good log 0 (listing log) (listing_walks log))

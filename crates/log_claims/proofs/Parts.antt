@@ -11,8 +11,9 @@ use lib.Seq.{drop-append-le, drop-append-add}
 use Rattle.log_records.specs.Records.{two_at, agrees, record_length}
 use Rattle.log_records.proofs.Places.{stands}
 use Rattle.log_claims.proofs.Local.{judged, more_agrees}
+use Rattle.std.specs.Prelude.{Option, Some, None}
 use Rattle.log_salvage.specs.declared.Stretch.{Stretch}
-use Rattle.log_salvage.specs.declared.Stretch.TheVariants.{Skipped, Kept, End}
+use Rattle.log_salvage.specs.declared.Stretch.TheVariants.{Skipped, Kept}
 use Rattle.log_salvage.specs.Salvage.{stops_at, skips, stretch_at}
 use Rattle.log_claims.specs.Listing.{listing}
 use Rattle.log_claims.specs.Claims.{IsKept, Walk}
@@ -21,46 +22,37 @@ use Rattle.log_claims.proofs.Walks.{listing_walks, passes, no_record, all_there,
 use Rattle.log_claims.proofs.Choice.{walk_one}
 
 -- ---- what a stretch of a part tells
-abbrev sort_of : Stretch → ℕ
-sort_of (Kept at n) = 0
-sort_of (Skipped at n) = 1
-sort_of End = 2
-
-abbrev size_of : Stretch → ℕ
-size_of (Kept at n) = n
-size_of (Skipped at n) = n
-size_of End = 0
-
 module _ (part : List ℕ) (at n : ℕ) (last : Bool) where
   abbrev bs : List ℕ
   bs = drop at part
 
-  abbrev unkept : Bool → Stretch
-  unkept t = cond t (Skipped at (skips last bs)) End
+  abbrev unkept : Bool → Option Stretch
+  unkept t = cond t (Some (Skipped at (skips last bs))) None
 
-  abbrev judged_by : Bool → Bool → Stretch
-  judged_by y t = cond y (Kept at (record_length bs)) (unkept t)
+  abbrev judged_by : Bool → Bool → Option Stretch
+  judged_by y t = cond y (Some (Kept at (record_length bs))) (unkept t)
 
   is_judged : (y t : Bool) → agrees bs ≡ y → ltb 0 (skips last bs) ≡ t → judged_by y t ≡ stretch_at part at last
   unfolding stretch_at
   is_judged y t e f = sym (ap (λ (a : Bool). judged_by a (ltb 0 (skips last bs))) e ∙ ap (judged_by y) f)
 
   -- of one stretch the two tests are known
-  of_kept : (y t : Bool) → agrees bs ≡ y → ltb 0 (skips last bs) ≡ t → stretch_at part at last ≡ Kept at n → (agrees bs ≡ true) × (n ≡ record_length bs)
-  of_kept true t a b e = (a, sym (ap size_of (is_judged true t a b ∙ e)))
-  of_kept false true a b e = absurd (let z : 1 ≡ 0 = ap sort_of (is_judged false true a b ∙ e) in omega arith)
-  of_kept false false a b e = absurd (let z : 2 ≡ 0 = ap sort_of (is_judged false false a b ∙ e) in omega arith)
+  of_kept : (y t : Bool) → agrees bs ≡ y → ltb 0 (skips last bs) ≡ t → stretch_at part at last ≡ Some (Kept at n) → (agrees bs ≡ true) × (n ≡ record_length bs)
+  of_kept true t a b e = let k = is_judged true t a b ∙ e in (a, cc)
+  of_kept false true a b e = let k = is_judged false true a b ∙ e in cc
+  of_kept false false a b e = let k = is_judged false false a b ∙ e in cc
 
-  of_skipped : (y t : Bool) → agrees bs ≡ y → ltb 0 (skips last bs) ≡ t → stretch_at part at last ≡ Skipped at n → (skips last bs ≡ n) × (0 < n)
-  of_skipped true t a b e = absurd (let z : 0 ≡ 1 = ap sort_of (is_judged true t a b ∙ e) in omega arith)
+  of_skipped : (y t : Bool) → agrees bs ≡ y → ltb 0 (skips last bs) ≡ t → stretch_at part at last ≡ Some (Skipped at n) → (skips last bs ≡ n) × (0 < n)
+  of_skipped true t a b e = let k = is_judged true t a b ∙ e in cc
   of_skipped false true a b e =
-      let k : skips last bs ≡ n = ap size_of (is_judged false true a b ∙ e) in
+      let j = is_judged false true a b ∙ e in
+      let k : skips last bs ≡ n = cc in
       (k, omega (arith, ltb-true 0 (skips last bs) b))
-  of_skipped false false a b e = absurd (let z : 2 ≡ 1 = ap sort_of (is_judged false false a b ∙ e) in omega arith)
+  of_skipped false false a b e = let k = is_judged false false a b ∙ e in cc
 
-  of_end : (y t : Bool) → agrees bs ≡ y → ltb 0 (skips last bs) ≡ t → stretch_at part at last ≡ End → (agrees bs ≡ false) × (skips last bs ≡ 0)
-  of_end true t a b e = absurd (let z : 0 ≡ 2 = ap sort_of (is_judged true t a b ∙ e) in omega arith)
-  of_end false true a b e = absurd (let z : 1 ≡ 2 = ap sort_of (is_judged false true a b ∙ e) in omega arith)
+  of_end : (y t : Bool) → agrees bs ≡ y → ltb 0 (skips last bs) ≡ t → stretch_at part at last ≡ None → (agrees bs ≡ false) × (skips last bs ≡ 0)
+  of_end true t a b e = let k = is_judged true t a b ∙ e in cc
+  of_end false true a b e = let k = is_judged false true a b ∙ e in cc
   of_end false false a b e = (a, omega (arith, ltb-false 0 (skips last bs) b))
 
 -- ---- a part in its log: bytes before it, and behind it where it is not the last
@@ -75,7 +67,7 @@ module _ (front part more : List ℕ) (last : Bool) (ends : last ≡ true → mo
   there at h = drop-append-add front (part ++ more) at ∙ drop-append-le at part more h
 
   -- a record that is kept in the part is one of the log
-  pub part_kept : (at n : ℕ) → at ≤ length part → stretch_at part at last ≡ Kept at n → IsKept log (base + at) n
+  pub part_kept : (at n : ℕ) → at ≤ length part → stretch_at part at last ≡ Some (Kept at n) → IsKept log (base + at) n
   part_kept at n h e =
       let t = of_kept part at n last (agrees (drop at part)) (ltb 0 (skips last (drop at part))) refl refl e in
       let m = more_agrees (drop at part) more t.0 in
@@ -97,7 +89,7 @@ module _ (front part more : List ℕ) (last : Bool) (ends : last ≡ true → mo
       go false l = judged bs more (all_there bs (ap (λ (t : Bool). stops_at t bs) (sym l) ∙ e)) ∙ no_record last bs e
 
   -- and at no byte that is skipped in the part does one of the log begin
-  pub part_skipped : (at n : ℕ) → at ≤ length part → stretch_at part at last ≡ Skipped at n → (at + n ≤ length part) × NoneIn log (base + at) (base + (at + n))
+  pub part_skipped : (at n : ℕ) → at ≤ length part → stretch_at part at last ≡ Some (Skipped at n) → (at + n ≤ length part) × NoneIn log (base + at) (base + (at + n))
   part_skipped at n h e =
       let p = passes last n part at (of_skipped part at n last (agrees (drop at part)) (ltb 0 (skips last (drop at part))) refl refl e).0 in (
         p.whole h,
@@ -145,15 +137,15 @@ pending_end log s h none = go (ltb s (length log)) refl
 
 -- ---- and a part in hand
 module _ (log : List ℕ) (p : ℕ) (h : InHand log p) where
-  hand_kept : (n : ℕ) → stretch_in log p h ≡ Kept h.at n → IsKept log p n
+  hand_kept : (n : ℕ) → stretch_in log p h ≡ Some (Kept h.at n) → IsKept log p n
   hand_kept n e = subst (λ (q : List ℕ). IsKept q p n) h.joins (subst (λ (i : ℕ). IsKept (h.front ++ (h.part ++ h.more)) i n) h.here (part_kept h.front h.part h.more h.last h.ends h.at n h.inside e))
 
-  hand_skipped : (n : ℕ) → stretch_in log p h ≡ Skipped h.at n → NoneIn log p (p + n)
+  hand_skipped : (n : ℕ) → stretch_in log p h ≡ Some (Skipped h.at n) → NoneIn log p (p + n)
   hand_skipped n e =
       let k = (part_skipped h.front h.part h.more h.last h.ends h.at n h.inside e).1 in
       λ i a b. sym (ap (λ (q : List ℕ). agrees (drop i q)) h.joins) ∙ k i (omega (arith, h.here)) (omega (arith, h.here))
 
-  hand_ended : h.last ≡ true → stretch_in log p h ≡ End → p ≡ length log
+  hand_ended : h.last ≡ true → stretch_in log p h ≡ None → p ≡ length log
   hand_ended l e =
       let t = of_end h.part h.at 0 h.last (agrees (drop h.at h.part)) (ltb 0 (skips h.last (drop h.at h.part))) refl refl e in
       let at_last = at_end h.part h.at h.inside t.0 (sym (ap (λ (b : Bool). skips b (drop h.at h.part)) l) ∙ t.1) in

@@ -11,9 +11,10 @@ use lib.ListN.{length, get_or, take, drop, length-append, length-drop, take-appe
 use lib.Seq.{take_at, get_or-append-add, get_or-append_seam, take-append_seam, drop-append_seam, take-append-le, drop-append-le, drop-drop, get_or-drop, drop-cons, length-take-le}
 use Rattle.error.specs.Refusals.{Said, given, unless}
 use Rattle.error.proofs.Ladder.{both, join, accepted, same_given}
-use Rattle.log_records.specs.Records.{two_of, two_at, is_kind, total, body_of, sum_of, record_of, mark_agrees, kind_agrees, length_agrees, sum_agrees, agrees, record_length, read_at}
+use Rattle.log_records.specs.Records.{two_of, two_at, is_kind, total, body_of, sum_of, record_of, mark_agrees, kind_agrees, length_agrees, sum_agrees, agrees, read_at}
 use Rattle.log_writer.specs.Writer.{put_said, placed, put_area}
-use Rattle.log_records.specs.declared.Read.TheVariants.{Record}
+use Rattle.std.specs.Prelude.{Some}
+use Rattle.log_records.specs.declared.Record.{Record}
 use Rattle.log_records.proofs.Places.{Stands, stands, read_some}
 use Rattle.log_writer.proofs.Written.{kind_most}
 use Rattle.log_claims.proofs.Local.{more_agrees}
@@ -77,7 +78,7 @@ module _ (kind : ℕ) (payload : List ℕ) (k : is_kind kind ≡ true) (h : leng
 
   -- wherever it stands: its kind, where its payload stands, and where the next one would
   pub reads_back : (front rest : List ℕ)
-      → (read_at (front ++ (r ++ rest)) (length front) ≡ Record kind (length front + 5) n (length front + (7 + n)))
+      → (read_at (front ++ (r ++ rest)) (length front) ≡ Some (record { kind = kind; from = length front + 5; length = n; next = length front + (7 + n) }))
       × (take n (drop (length front + 5) (front ++ (r ++ rest))) ≡ payload)
   reads_back front rest =
       let log = front ++ (r ++ rest) in
@@ -85,16 +86,15 @@ module _ (kind : ℕ) (payload : List ℕ) (k : is_kind kind ≡ true) (h : leng
       let here : drop at log ≡ r ++ rest = drop-append_seam front (r ++ rest) in
       let y = more_agrees r rest record_agrees in
       let len : two_at (drop at log) 3 ≡ n = ap (λ (q : List ℕ). two_at q 3) here ∙ y.1 ∙ length_back in
-      let is : 7 + n ≡ record_length (drop at log) = sym (ap (λ (t : Bool). cond t (7 + two_at (drop at log) 3) 0) (ap agrees here ∙ y.0) ∙ ap (λ (i : ℕ). 7 + i) len) in
       let kind-there : get_or log (at + 2) 0 ≡ kind = sym (get_or-drop at log 2 0) ∙ ap (λ (q : List ℕ). get_or q 2 0) here ∙ get_or-append r rest 0 2 (omega (arith, record_length_lem)) ∙ kind_back in (
-        sym (read_some log at (7 + n) is (omega arith)) ∙ rw (kind-there, (let z : 7 + n - 7 ≡ n = omega arith in z)),
+        read_some log at n (ap agrees here ∙ y.0) len ∙ rw kind-there,
         ap (take n) (sym (drop-drop 5 at log) ∙ ap (drop 5) here ∙ drop-append-le 5 r rest (omega (arith, record_length_lem)))
             ∙ take-append-le n (drop 5 r) rest (omega (arith, record_length_lem, length-drop 5 r)) ∙ payload_back,
       )
 
 -- what the writer left at the front of lent bytes, behind any others, is read back
 pub written_reads : (kind : ℕ) (payload out front : List ℕ) (m : ℕ) → put_said kind payload (length out) ≡ given m
-    → (read_at (front ++ put_area kind payload out) (length front) ≡ Record kind (length front + 5) (length payload) (length front + m))
+    → (read_at (front ++ put_area kind payload out) (length front) ≡ Some (record { kind = kind; from = length front + 5; length = length payload; next = length front + m }))
     × (take (length payload) (drop (length front + 5) (front ++ put_area kind payload out)) ≡ payload)
 unfolding put_said placed
 written_reads kind payload out front m e =
@@ -105,7 +105,7 @@ written_reads kind payload out front m e =
     let same : 7 + n ≡ m = same_given (7 + n) m c.1 in
     let area : put_area kind payload out ≡ record_of kind payload ++ drop m out = ap (λ (s : Said ℕ). placed s (record_of kind payload) out) e in
     let r = reads_back kind payload a.0 (leb-true n 64 b.0) front (drop m out) in (
-      ap (λ (q : List ℕ). read_at (front ++ q) (length front)) area ∙ r.0 ∙ ap (λ (i : ℕ). Record kind (length front + 5) n (length front + i)) same,
+      ap (λ (q : List ℕ). read_at (front ++ q) (length front)) area ∙ r.0 ∙ ap (λ (i : ℕ). Some (record { kind = kind; from = length front + 5; length = n; next = length front + i })) same,
       ap (λ (q : List ℕ). take n (drop (length front + 5) (front ++ q))) area ∙ r.1,
     )
 

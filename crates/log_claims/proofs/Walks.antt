@@ -8,8 +8,9 @@ use native.Mathlib.Omega.{arith}
 use borrow.Author.Tests.{ltb-true, ltb-false}
 use lib.Dec.{ltb}
 use lib.ListN.{length, drop, length-drop}
-use Rattle.log_records.specs.Records.{two_at, agrees, record_length}
+use Rattle.log_records.specs.Records.{two_at, agrees, record_length, length_at}
 use Rattle.log_records.proofs.Places.{stands}
+use Rattle.std.specs.Prelude.{Option, Some, None}
 use Rattle.log_salvage.specs.declared.Stretch.{Stretch}
 use Rattle.log_salvage.specs.declared.Stretch.TheVariants.{Skipped, Kept}
 use Rattle.log_salvage.specs.Salvage.{stops_at, skips, stretch_at}
@@ -87,29 +88,34 @@ stops_record bs e = sym (or-false (agrees bs)) ∙ e
 pub kept_length : (bs : List ℕ) → agrees bs ≡ true → record_length bs ≡ 7 + two_at bs 3
 kept_length bs y = rw y
 
-none_length : (bs : List ℕ) → agrees bs ≡ false → record_length bs ≡ 0
-none_length bs y = rw y
+some_at : (log : List ℕ) (at : ℕ) → agrees (drop at log) ≡ true → Some (record_length (drop at log)) ≡ length_at log at
+unfolding length_at
+some_at log at y = rw y
+
+none_at : (log : List ℕ) (at : ℕ) → agrees (drop at log) ≡ false → None ≡ length_at log at
+unfolding length_at
+none_at log at y = rw y
 
 module _ (f : ℕ) (log : List ℕ) (at : ℕ) where
-  abbrev after : Stretch → List Stretch
-  after s = with_rest s (stretches_from f log (end_of s))
+  abbrev after : Option Stretch → List Stretch
+  after s = with_rest s (stretches_from f log)
 
   first_kept : agrees (drop at log) ≡ true → Kept at (record_length (drop at log)) ∷ stretches_from f log (at + record_length (drop at log)) ≡ stretches_from (suc f) log at
   unfolding stretches_from with_rest end_of
   first_kept y =
       let n = record_length (drop at log) in
-      ap after (is_kept log at true n refl (omega (arith, kept_length (drop at log) y)))
+      ap after (is_kept log at true n (some_at log at y))
 
   first_skipped : (k : ℕ) → agrees (drop at log) ≡ false → skips true (drop at log) ≡ k → 0 < k → Skipped at k ∷ stretches_from f log (at + k) ≡ stretches_from (suc f) log at
   unfolding stretches_from with_rest end_of
   first_skipped k y e h =
       let on : at + k - at ≡ k = omega arith in
-      let s : Skipped at k ≡ stretch_at log at true = sym (ap (Skipped at) on) ∙ is_skipped log at true 0 (sym (none_length (drop at log) y)) (at + k) (omega arith) (omega arith) (omega arith) in
+      let s : Some (Skipped at k) ≡ stretch_at log at true = sym (ap (λ (i : ℕ). Some (Skipped at i)) on) ∙ is_skipped log at true (none_at log at y) (at + k) (omega arith) (omega arith) in
       ap after s
 
   first_none : agrees (drop at log) ≡ false → skips true (drop at log) ≡ 0 → [] ≡ stretches_from (suc f) log at
   unfolding stretches_from with_rest end_of
-  first_none y e = ap after (is_end log at true 0 (sym (none_length (drop at log) y)) at (omega arith) (omega arith) (omega arith))
+  first_none y e = ap after (is_end log at true (none_at log at y) at (omega arith) (omega arith))
 
 -- where no record stands and nothing can be skipped, the log is over
 pub at_end : (log : List ℕ) (at : ℕ) → at ≤ length log → agrees (drop at log) ≡ false → skips true (drop at log) ≡ 0 → at ≡ length log

@@ -2,7 +2,7 @@
 use Rattle.std.specs.Prelude.{true, false, List, [], ◌∷◌, ◌++◌, ◌⊎◌, ◌≡◌, ℕ, ◌+◌, ◌≤◌, ◌<◌, length, take, drop}
 use Rattle.log_records.specs.Records.{agrees, record_length}
 use Rattle.log_salvage.specs.declared.Stretch.{Stretch}
-use Rattle.log_salvage.specs.declared.Stretch.TheVariants.{Skipped, Kept, End}
+use Rattle.log_salvage.specs.declared.Stretch.TheVariants.{Skipped, Kept}
 
 -- a stretch stands in a listing
 unfoldable pub Listed : Stretch → List Stretch → Type 0
@@ -36,7 +36,6 @@ unfoldable pub Walk : List ℕ → ℕ → List Stretch → Type 0
 Walk log at [] = at ≡ length log
 Walk log at (Kept p n ∷ rest) = (p ≡ at) × (IsKept log at n × Walk log (at + n) rest)
 Walk log at (Skipped p n ∷ rest) = (p ≡ at) × (IsSkipped log at n × Walk log (at + n) rest)
-Walk log at (End ∷ rest) = ⊥
 
 -- a record by itself: bytes that agree, and no other behind them
 pub record Good (r : List ℕ) : Type 0 where
@@ -61,4 +60,3 @@ unfoldable pub kept_parts : List ℕ → List Stretch → List (List ℕ)
 kept_parts log [] = []
 kept_parts log (Kept at n ∷ rest) = take n (drop at log) ∷ kept_parts log rest
 kept_parts log (Skipped at n ∷ rest) = kept_parts log rest
-kept_parts log (End ∷ rest) = kept_parts log rest

@@ -5,6 +5,7 @@ use Prim.Native.Nat.{ℕ, ◌+◌, ◌-◌, ◌≤◌}
 use native.Mathlib.Omega.{arith}
 use lib.ListN.{length, take, drop, length-take, length-drop}
 use lib.Seq.{take_all, take-take, drop-drop}
+use Rattle.std.specs.Prelude.{Option}
 use Rattle.log_salvage.specs.declared.Stretch.{Stretch}
 use Rattle.log_parts.specs.declared.part.Part.{Part}
 use Rattle.log_parts.specs.declared.walk.Walk.{Walk}
@@ -36,5 +37,5 @@ module _ (p p' : Part) (buf : List ℕ) where
       rw (a, l) (take-take (p.end - p.at) p'.end buf' h ∙ e)
 
 -- over the stretch t, which is known as s; over none at the end of the part
-pub turned : (s t : Stretch) → s ≡ t → (w w' : Walk) (p p' : Part) (buf buf' : List ℕ) → w' ≡ walk_after w s → Follows (length_of s) p buf p' buf' → Turned t w p buf w' p' buf'
-turned s t e w w' p p' buf buf' v f = record { walk = v ∙ ap (walk_after w) e; rest = subst (λ (u : Stretch). Follows (length_of u) p buf p' buf') e f }
+pub turned : (s t : Option Stretch) → s ≡ t → (w w' : Walk) (p p' : Part) (buf buf' : List ℕ) → w' ≡ walk_after w s → Follows (length_of s) p buf p' buf' → Turned t w p buf w' p' buf'
+turned s t e w w' p p' buf buf' v f = record { walk = v ∙ ap (walk_after w) e; rest = subst (λ (u : Option Stretch). Follows (length_of u) p buf p' buf') e f }

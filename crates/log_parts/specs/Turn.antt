@@ -1,5 +1,5 @@
 -- What a turn of the walk leaves: no byte is walked twice, and none is left out. Definitions only.
-use Rattle.std.specs.Prelude.{List, ◌≡◌, ℕ, ◌-◌, ◌≤◌, length, take, drop}
+use Rattle.std.specs.Prelude.{List, ◌≡◌, ℕ, ◌-◌, ◌≤◌, length, take, drop, Option}
 use Rattle.log_salvage.specs.declared.Stretch.{Stretch}
 use Rattle.log_parts.specs.declared.part.Part.{Part}
 use Rattle.log_parts.specs.declared.walk.Walk.{Walk}
@@ -17,7 +17,7 @@ unwalked p buf = drop p.at (take p.end buf)
 abbrev pub Follows : ℕ → Part → List ℕ → Part → List ℕ → Type 0
 Follows n p buf p' buf' = take (length (unwalked p buf) - n) (unwalked p' buf') ≡ drop n (unwalked p buf)
 
--- a turn goes on by the bytes of the stretch s, in the log and in the buffer alike
-pub record Turned (s : Stretch) (w : Walk) (p : Part) (buf : List ℕ) (w' : Walk) (p' : Part) (buf' : List ℕ) : Type 0 where
+-- a turn goes on by the bytes of the stretch s, if there is one, in the log and in the buffer alike
+pub record Turned (s : Option Stretch) (w : Walk) (p : Part) (buf : List ℕ) (w' : Walk) (p' : Part) (buf' : List ℕ) : Type 0 where
   pub walk : w' ≡ walk_after w s
   pub rest : Follows (length_of s) p buf p' buf'

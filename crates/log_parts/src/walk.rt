@@ -13,19 +13,19 @@ pub struct Walk {
     pub place: u64,
 }
 
-// The walk behind a stretch. One that is skipped joins what is skipped in front of it.
-pub fn after(w: Walk, s: Stretch) -> Walk
+// The walk behind a stretch, if there is one. One that is skipped joins what is skipped in front of it.
+pub fn after(w: Walk, s: Option<Stretch>) -> Walk
     ensures { result ≡ walk_after w s }
 {
     match s {
-        Stretch::Skipped(_, n) => Walk {
+        Some(Stretch::Skipped { length, .. }) => Walk {
             from: w.from,
-            place: plus(w.place, n as u64),
+            place: plus(w.place, length as u64),
         },
-        Stretch::Kept(_, n) => {
-            let place = plus(w.place, n as u64);
+        Some(Stretch::Kept { length, .. }) => {
+            let place = plus(w.place, length as u64);
             Walk { from: place, place }
         }
-        Stretch::End => w,
+        None => w,
     }
 }

@@ -2,6 +2,7 @@
 use mathlib.Core.Bool.{Bool, true, false, cond, ◌&&◌}
 use mathlib.Core.List.{List}
 use mathlib.Core.Path.{◌≡◌, refl, sym, ap, ◌∙◌, subst}
+use Rattle.std.specs.Prelude.{Some, None, option_map}
 use Prim.Native.Nat.{ℕ, ◌+◌, ◌-◌, ◌%◌, ◌≤◌, ◌<◌}
 use native.Mathlib.Nat.{add-zero, add_assoc}
 use native.Mathlib.Omega.{arith}
@@ -10,8 +11,8 @@ use lib.Dec.{eqb, leb}
 use lib.ListN.{length, get_or, take, drop, length-drop}
 use lib.Seq.{get_or-drop, drop-drop}
 use Rattle.error.proofs.Ladder.{both, join}
-use Rattle.log_records.specs.Records.{two_at, is_kind, total, sum_of, mark_agrees, kind_agrees, length_agrees, sum_agrees, agrees, record_length, read_at}
-use Rattle.log_records.specs.declared.Read.TheVariants.{Record, None}
+use Rattle.log_records.specs.Records.{two_at, is_kind, total, sum_of, mark_agrees, kind_agrees, length_agrees, sum_agrees, agrees, length_at, record_at, read_at}
+use Rattle.log_records.specs.declared.Record.{Record}
 
 first : (log : List ℕ) (at : ℕ) → get_or log at 0 ≡ get_or (drop at log) 0 0
 first log at = sym (get_or-drop at log 0 0 ∙ ap (λ (i : ℕ). get_or log i 0) (add-zero at))
@@ -57,8 +58,9 @@ hold_all m k l s h f g =
     let b = both m k h in
     join b.0 (join b.1 (join f g))
 
-no_length : (bs : List ℕ) → agrees bs ≡ false → 0 ≡ record_length bs
-no_length bs e = rw e
+no_length : (log : List ℕ) (at : ℕ) → agrees (drop at log) ≡ false → None ≡ length_at log at
+unfolding length_at
+no_length log at e = rw e
 
 fails_length : (n room : ℕ) → room < 7 + n → (leb n 64 && leb (7 + n) room) ≡ false
 fails_length n room h = go (leb n 64)
@@ -69,48 +71,48 @@ fails_length n room h = go (leb n 64)
 
 module _ (log : List ℕ) (at : ℕ) where
   -- the record would go past the end
-  pub none_cut : (n : ℕ) → n ≡ two_at log (at + 3) → length log < at + (7 + n) → 0 ≡ record_length (drop at log)
+  pub none_cut : (n : ℕ) → n ≡ two_at log (at + 3) → length log < at + (7 + n) → None ≡ length_at log at
   unfolding agrees
   none_cut n e h =
       let bs = drop at log in
       let m = e ∙ two_drop log at 3 in
-      no_length bs
+      no_length log at
       (fail_length (mark_agrees bs) (kind_agrees bs) (length_agrees bs) (sum_agrees bs) (fails_length (two_at bs 3) (length bs) (omega (arith, m, length-drop at log))))
 
-  pub none_short : length log < at + 7 → 0 ≡ record_length (drop at log)
+  pub none_short : length log < at + 7 → None ≡ length_at log at
   none_short h = none_cut (two_at log (at + 3)) refl (omega arith)
 
-  pub none_head : (mark_agrees (drop at log) && kind_agrees (drop at log)) ≡ false → 0 ≡ record_length (drop at log)
+  pub none_head : (mark_agrees (drop at log) && kind_agrees (drop at log)) ≡ false → None ≡ length_at log at
   unfolding agrees
   none_head h =
       let bs = drop at log in
-      no_length bs (fail_head (mark_agrees bs) (kind_agrees bs) (length_agrees bs && sum_agrees bs) h)
+      no_length log at (fail_head (mark_agrees bs) (kind_agrees bs) (length_agrees bs && sum_agrees bs) h)
 
-  pub none_long : (n : ℕ) → n ≡ two_at log (at + 3) → 64 < n → 0 ≡ record_length (drop at log)
+  pub none_long : (n : ℕ) → n ≡ two_at log (at + 3) → 64 < n → None ≡ length_at log at
   unfolding agrees
   none_long n e h =
       let bs = drop at log in
       let m = e ∙ two_drop log at 3 in
-      no_length bs
+      no_length log at
       (fail_length (mark_agrees bs) (kind_agrees bs) (length_agrees bs) (sum_agrees bs) (rw (lt-leb (two_at bs 3) 64 (omega (arith, m)))))
 
-  pub none_sum : sum_agrees (drop at log) ≡ false → 0 ≡ record_length (drop at log)
+  pub none_sum : sum_agrees (drop at log) ≡ false → None ≡ length_at log at
   unfolding agrees
   none_sum h =
       let bs = drop at log in
-      no_length bs (fail_sum (mark_agrees bs) (kind_agrees bs) (length_agrees bs) (sum_agrees bs) h)
+      no_length log at (fail_sum (mark_agrees bs) (kind_agrees bs) (length_agrees bs) (sum_agrees bs) h)
 
   pub some_length : (n : ℕ) → (mark_agrees (drop at log) && kind_agrees (drop at log)) ≡ true → n ≡ two_at log (at + 3) → n ≤ 64 → at + (7 + n) ≤ length log
-      → sum_agrees (drop at log) ≡ true → 7 + n ≡ record_length (drop at log)
-  unfolding agrees
+      → sum_agrees (drop at log) ≡ true → Some (7 + n) ≡ length_at log at
+  unfolding agrees length_at
   some_length n h e l f g =
       let bs = drop at log in
       let m = e ∙ two_drop log at 3 in
       let long : length_agrees bs ≡ true = join (le-leb (two_at bs 3) 64 (omega (arith, m))) (le-leb (7 + two_at bs 3) (length bs) (omega (arith, m, length-drop at log))) in
       let yes = hold_all (mark_agrees bs) (kind_agrees bs) (length_agrees bs) (sum_agrees bs) h long g in
-      ap (λ (i : ℕ). 7 + i) m ∙ sym (ap (λ (t : Bool). cond t (7 + two_at bs 3) 0) yes)
+      ap (λ (i : ℕ). Some (7 + i)) m ∙ sym (ap (λ (t : Bool). cond t (Some (7 + two_at bs 3)) None) yes)
 
--- ---- what a length tells: above 0, that a record stands there and lies whole in the log; else that none does
+-- ---- what a length tells: that a record stands there and lies whole in the log, or that none does
 pub record Stands (bs : List ℕ) (n : ℕ) : Type 0 where
   pub yes : agrees bs ≡ true
   pub length_is : n ≡ 7 + two_at bs 3
@@ -129,32 +131,40 @@ stands bs h =
     let b = both (leb (two_at bs 3) 64) (leb (7 + two_at bs 3) (length bs)) (agrees_length bs h) in
     record { yes = h; length_is = refl; short = leb-true (two_at bs 3) 64 b.0; whole = leb-true (7 + two_at bs 3) (length bs) b.1 }
 
-pub of_length : (bs : List ℕ) (n : ℕ) → n ≡ record_length bs → 0 < n → Stands bs n
-of_length bs n e h = go (agrees bs) refl
+pub of_some : (log : List ℕ) (at n : ℕ) → Some n ≡ length_at log at → Stands (drop at log) n
+unfolding length_at
+of_some log at n e = go (agrees (drop at log)) refl
   where
-    go : (t : Bool) → agrees bs ≡ t → Stands bs n
-    go true y = subst (λ (i : ℕ). Stands bs i) (sym (e ∙ ap (λ (t : Bool). cond t (7 + two_at bs 3) 0) y)) (stands bs y)
-    go false y = absurd (let z : n ≡ 0 = e ∙ ap (λ (t : Bool). cond t (7 + two_at bs 3) 0) y in omega arith)
+    bs : List ℕ
+    bs = drop at log
 
-pub of_none : (bs : List ℕ) (n : ℕ) → n ≡ record_length bs → n < 7 → agrees bs ≡ false
-of_none bs n e h = go (agrees bs) refl
+    go : (t : Bool) → agrees bs ≡ t → Stands bs n
+    go true y = let k : n ≡ 7 + two_at bs 3 = cc in
+        subst (λ (i : ℕ). Stands bs i) (sym k) (stands bs y)
+    go false y = cc
+
+pub of_none : (log : List ℕ) (at : ℕ) → None ≡ length_at log at → agrees (drop at log) ≡ false
+unfolding length_at
+of_none log at e = go (agrees (drop at log)) refl
   where
-    go : (t : Bool) → agrees bs ≡ t → t ≡ false
-    go true y = absurd (let z : n ≡ 7 + two_at bs 3 = e ∙ ap (λ (t : Bool). cond t (7 + two_at bs 3) 0) y in omega arith)
+    go : (t : Bool) → agrees (drop at log) ≡ t → t ≡ false
+    go true y = cc
     go false y = refl
 
-module _ (log : List ℕ) (at n : ℕ) (e : n ≡ record_length (drop at log)) where
-  pub read_none : n < 7 → None ≡ read_at log at
-  unfolding read_at
-  read_none h = rw (of_none (drop at log) n e h)
+pub read_some : (log : List ℕ) (at n : ℕ) → agrees (drop at log) ≡ true → two_at (drop at log) 3 ≡ n
+    → read_at log at ≡ Some (record { kind = get_or log (at + 2) 0; from = at + 5; length = n; next = at + (7 + n) })
+unfolding read_at
+read_some log at n y e = let l : two_at log (at + 3) ≡ n = two_drop log at 3 ∙ e in rw (y, l)
 
-  pub read_some : 7 ≤ n → Record (get_or log (at + 2) 0) (at + 5) (n - 7) (at + n) ≡ read_at log at
-  unfolding read_at
-  read_some h =
-      let s = of_length (drop at log) n e (omega arith) in
-      let k : n ≡ 7 + two_at log (at + 3) = s.length_is ∙ ap (λ (i : ℕ). 7 + i) (sym (two_drop log at 3)) in
-      let l : n - 7 ≡ two_at log (at + 3) = omega arith in
-      rw (s.yes, l, k)
+-- what is read is told by the length
+pub read_by : (log : List ℕ) (at : ℕ) → read_at log at ≡ option_map (λ (n : ℕ). record { kind = get_or log (at + 2) 0; from = at + 5; length = n - 7; next = at + n }) (length_at log at)
+unfolding read_at length_at
+read_by log at = go (agrees (drop at log))
+  where
+    n : ℕ
+    n = two_at (drop at log) 3
 
-  pub read_room : 7 ≤ n → at + n ≤ length log
-  read_room h = omega (arith, (of_length (drop at log) n e (omega arith)).whole, length-drop at log)
+    go : (t : Bool) → cond t (Some (record_at log at)) None
+        ≡ option_map (λ (n : ℕ). record { kind = get_or log (at + 2) 0; from = at + 5; length = n - 7; next = at + n }) (cond t (Some (7 + n)) None)
+    go true = let l : 7 + n - 7 ≡ n = omega arith in rw (two_drop log at 3, l)
+    go false = refl

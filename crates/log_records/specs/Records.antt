@@ -1,7 +1,6 @@
 -- Document 02, R-12: a record of the pass log, and where one stands. Definitions only.
-use Rattle.std.specs.Prelude.{Bool, cond, ◌&&◌, List, [], ◌∷◌, ◌++◌, ℕ, ◌+◌, ◌*◌, ◌/◌, ◌%◌, eqb, leb, length, get_or, take, drop}
-use Rattle.log_records.specs.declared.Read.{Read}
-use Rattle.log_records.specs.declared.Read.TheVariants.{Record, None}
+use Rattle.std.specs.Prelude.{Bool, cond, ◌&&◌, List, [], ◌∷◌, ◌++◌, ℕ, ◌+◌, ◌*◌, ◌/◌, ◌%◌, eqb, leb, length, get_or, take, drop, Option, Some, None}
+use Rattle.log_records.specs.declared.Record.{Record}
 
 -- "a two-byte ..; numbers little-endian"
 abbrev pub two_of : ℕ → List ℕ
@@ -53,9 +52,13 @@ agrees bs = mark_agrees bs && (kind_agrees bs && (length_agrees bs && sum_agrees
 abbrev pub record_length : List ℕ → ℕ
 record_length bs = cond (agrees bs) (7 + two_at bs 3) 0
 
+-- the same of the record at the place `at`, if one stands there
+unfoldable pub length_at : List ℕ → ℕ → Option ℕ
+length_at log at = cond (agrees (drop at log)) (Some (7 + two_at (drop at log) 3)) None
+
 -- the kind of the record at the place `at`, where its payload begins, the payload's length, and the place behind the record
-unfoldable pub read_at : List ℕ → ℕ → Read
-read_at log at =
-    cond (agrees (drop at log))
-    (Record (get_or log (at + 2) 0) (at + 5) (two_at log (at + 3)) (at + (7 + two_at log (at + 3))))
-    None
+abbrev pub record_at : List ℕ → ℕ → Record
+record_at log at = record { kind = get_or log (at + 2) 0; from = at + 5; length = two_at log (at + 3); next = at + (7 + two_at log (at + 3)) }
+
+unfoldable pub read_at : List ℕ → ℕ → Option Record
+read_at log at = cond (agrees (drop at log)) (Some (record_at log at)) None

@@ -7,10 +7,12 @@ mod reading;
 
 pub use reading::{is_kind, length_at, read_record, total_of};
 
-// What the reader answers: the record's kind, where its payload begins and how long it is, and the place
-// behind the record; or that none stands there.
+// What the reader answers of a record: its kind, where its payload begins and how long it is, and the place
+// behind the record.
 #[derive(Clone, Copy)]
-pub enum Read {
-    Record(u8, usize, usize, usize),
-    None,
+pub struct Record {
+    pub kind: u8,
+    pub from: usize,
+    pub length: usize,
+    pub next: usize,
 }

@@ -1,8 +1,8 @@
 // Where a record stands, and what it holds.
-ghost use Rattle.std.specs.Prelude.{◌≡◌, ◌&&◌, ◌+◌, ◌*◌, ◌<◌, ◌≤◌, length, take, drop};
-ghost use Rattle.log_records.specs.Records.{two_at, is_kind, total, mark_agrees, kind_agrees, sum_agrees, record_length, read_at};
+ghost use Rattle.std.specs.Prelude.{◌≡◌, ◌&&◌, ◌+◌, ◌*◌, ◌<◌, ◌≤◌, length, take, drop, IfSome};
+ghost use Rattle.log_records.specs.Records.{two_at, is_kind, total, mark_agrees, kind_agrees, sum_agrees, length_at, read_at};
 
-use crate::Read;
+use crate::Record;
 
 // Only this crate calls this function.
 fn wide(byte: u8) -> usize
@@ -56,36 +56,39 @@ fn sum_agrees(log: &[u8], at: usize, n: usize) -> bool
     two_at(log, at + (5 + n)) == total_of(log, at + 2, 3 + n) % 65536
 }
 
-// How many bytes the record has that stands at the place `at`, 0 where none does.
-pub fn length_at(log: &[u8], at: usize) -> usize
-    ensures { result ≡ record_length (drop at log.now) }
+// How many bytes the record has that stands at the place `at`, if one does.
+pub fn length_at(log: &[u8], at: usize) -> Option<usize>
+    ensures value { result ≡ length_at log.now at }
+    ensures room { IfSome result (λ n. (7 ≤ n) × (at + n ≤ length log.now)) }
 {
     if at > log.len() {
-        return 0;
+        return None;
     }
     if log.len() - at < 7 {
-        return 0;
+        return None;
     }
     if !head_agrees(log, at) {
-        return 0;
+        return None;
     }
     let n = two_at(log, at + 3);
     if n > 64 {
-        return 0;
+        return None;
     }
     if log.len() - at < 7 + n {
-        return 0;
+        return None;
     }
-    if sum_agrees(log, at, n) { 7 + n } else { 0 }
+    if sum_agrees(log, at, n) { Some(7 + n) } else { None }
 }
 
 // The record at the place `at`. Nothing is copied: the payload stands in the log.
-pub fn read_record(log: &[u8], at: usize) -> Read
+pub fn read_record(log: &[u8], at: usize) -> Option<Record>
     ensures { result ≡ read_at log.now at }
 {
-    let n = length_at(log, at);
-    if n < 7 {
-        return Read::None;
-    }
-    Read::Record(log[at + 2], at + 5, n - 7, at + n)
+    let n = length_at(log, at)?;
+    Some(Record {
+        kind: log[at + 2],
+        from: at + 5,
+        length: n - 7,
+        next: at + n,
+    })
 }

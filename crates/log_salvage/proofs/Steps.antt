@@ -1,5 +1,5 @@
 -- The walk of salvage, place by place. Assumes nothing.
-use mathlib.Core.Bool.{Bool, true, false, not}
+use mathlib.Core.Bool.{Bool, true, false, not, cond, ◌&&◌, ◌||◌, true≢false}
 use mathlib.Core.List.{List, [], ◌∷◌}
 use mathlib.Core.Path.{◌≡◌, refl, sym, ap, ◌∙◌}
 use Prim.Native.Nat.{ℕ, suc, ◌+◌, ◌-◌, ◌≤◌, ◌<◌}
@@ -9,17 +9,13 @@ use borrow.Author.Tests.{le-leb, lt-leb, lt-ltb, le-ltb, ltb-true, ltb-false, no
 use lib.Dec.{ltb, leb}
 use lib.ListN.{length, get_or, drop, drop_of_length-le, length-drop}
 use lib.Seq.{drop-cons}
-use Rattle.log_records.specs.Records.{record_length}
-use Rattle.log_records.proofs.Places.{of_length, of_none}
-use Rattle.log_salvage.specs.declared.Stretch.TheVariants.{Skipped, Kept, End}
+use Rattle.std.specs.Prelude.{Some, None, is_some}
+use Rattle.log_records.specs.Records.{two_at, agrees, length_at}
+use Rattle.log_records.proofs.Places.{of_some, of_none}
+use Rattle.log_salvage.specs.declared.Stretch.TheVariants.{Skipped, Kept}
 use Rattle.log_salvage.specs.Salvage.{stops_at, skips, stretch_at}
 
 -- ---- a place is judged
-pub stops_record : (last : Bool) (bs : List ℕ) (n : ℕ) → n ≡ record_length bs → 0 < n → false ≡ not (stops_at last bs)
-stops_record last bs n e h = rw (of_length bs n e h).yes
-
-pub stops_last : (bs : List ℕ) (n : ℕ) → n ≡ record_length bs → n ≤ 0 → true ≡ not (stops_at true bs)
-stops_last bs n e h = rw (of_none bs n e (omega arith))
 
 not_below : (a m : ℕ) → leb a m ≡ not (ltb m a)
 not_below a m = go (ltb m a) refl
@@ -28,10 +24,19 @@ not_below a m = go (ltb m a) refl
     go true e = lt-leb a m (ltb-true m a e)
     go false e = le-leb a m (ltb-false m a e)
 
-pub stops_part : (part : List ℕ) (at n : ℕ) → n ≡ record_length (drop at part) → n ≤ 0 → leb 71 (length part - at) ≡ not (stops_at false (drop at part))
-stops_part part at n e h =
-    let bs = drop at part in
-    ap (leb 71) (sym (length-drop at part)) ∙ not_below 71 (length bs) ∙ rw (of_none bs n e (omega arith))
+pub passed_is : (part : List ℕ) (at : ℕ) (last none : Bool) → is_some (length_at part at) ≡ not none → (none && (last || leb 71 (length part - at))) ≡ not (stops_at last (drop at part))
+unfolding length_at
+passed_is part at last none e = go (agrees bs) last none e
+  where
+    bs : List ℕ
+    bs = drop at part
+
+    go : (y l n : Bool) → is_some (cond y (Some (7 + two_at bs 3)) None) ≡ not n → (n && (l || leb 71 (length part - at))) ≡ not (y || (not l && ltb (length bs) 71))
+    go true l true e = absurd (true≢false e)
+    go true l false e = refl
+    go false true true e = refl
+    go false false true e = ap (leb 71) (sym (length-drop at part)) ∙ not_below 71 (length bs)
+    go false l false e = absurd (true≢false (sym e))
 
 -- ---- one byte on
 pub skips_stop : (last : Bool) (bs : List ℕ) → stops_at last bs ≡ true → skips last bs ≡ 0
@@ -69,22 +74,22 @@ pub walked_end : (last : Bool) (part : List ℕ) (at p : ℕ) → Walked last pa
 walked_end last part at p w h = omega (arith, skips_end last part p h, w.same)
 
 -- ---- the stretch
-module _ (part : List ℕ) (at : ℕ) (last : Bool) (n : ℕ) (e : n ≡ record_length (drop at part)) where
-  pub is_kept : 0 < n → Kept at n ≡ stretch_at part at last
+module _ (part : List ℕ) (at : ℕ) (last : Bool) where
+  pub is_kept : (n : ℕ) → Some n ≡ length_at part at → Some (Kept at n) ≡ stretch_at part at last
   unfolding stretch_at
-  is_kept h =
-      let bs = drop at part in
-      ap (Kept at) e ∙ rw (of_length bs n e h).yes
+  is_kept n e =
+      let s = of_some part at n e in
+      rw (s.yes, s.length_is)
 
-  pub is_skipped : (p : ℕ) → n ≤ 0 → p ≡ at + skips last (drop at part) → at < p → Skipped at (p - at) ≡ stretch_at part at last
+  pub is_skipped : None ≡ length_at part at → (p : ℕ) → p ≡ at + skips last (drop at part) → at < p → Some (Skipped at (p - at)) ≡ stretch_at part at last
   unfolding stretch_at
-  is_skipped p h q l =
+  is_skipped e p q l =
       let bs = drop at part in
       let k : p - at ≡ skips last bs = omega arith in
-      ap (Skipped at) k ∙ rw (of_none bs n e (omega arith), lt-ltb 0 (skips last bs) (omega arith))
+      ap (λ (i : ℕ). Some (Skipped at i)) k ∙ rw (of_none part at e, lt-ltb 0 (skips last bs) (omega arith))
 
-  pub is_end : (p : ℕ) → n ≤ 0 → p ≡ at + skips last (drop at part) → p ≤ at → End ≡ stretch_at part at last
+  pub is_end : None ≡ length_at part at → (p : ℕ) → p ≡ at + skips last (drop at part) → p ≤ at → None ≡ stretch_at part at last
   unfolding stretch_at
-  is_end p h q l =
+  is_end e p q l =
       let bs = drop at part in
-      rw (of_none bs n e (omega arith), le-ltb 0 (skips last bs) (omega arith))
+      rw (of_none part at e, le-ltb 0 (skips last bs) (omega arith))

@@ -1,8 +1,8 @@
 -- Document 02, R-12: what salvage keeps and what it skips. Definitions only.
-use Rattle.std.specs.Prelude.{Bool, cond, not, ◌&&◌, ◌||◌, List, [], ◌∷◌, ℕ, suc, ltb, length, drop}
+use Rattle.std.specs.Prelude.{Bool, cond, not, ◌&&◌, ◌||◌, List, [], ◌∷◌, ℕ, suc, ltb, length, drop, Option, Some, None}
 use Rattle.log_records.specs.Records.{agrees, record_length}
 use Rattle.log_salvage.specs.declared.Stretch.{Stretch}
-use Rattle.log_salvage.specs.declared.Stretch.TheVariants.{Skipped, Kept, End}
+use Rattle.log_salvage.specs.declared.Stretch.TheVariants.{Skipped, Kept}
 
 -- whether the walk stops there: before a record and, where the log goes on behind these bytes (`last` is false), before too few to judge: a record has up to 71
 abbrev pub stops_at : Bool → List ℕ → Bool
@@ -13,9 +13,9 @@ unfoldable pub skips : Bool → List ℕ → ℕ
 skips last [] = 0
 skips last (b ∷ bs) = cond (stops_at last (b ∷ bs)) 0 (suc (skips last bs))
 
--- the stretch that begins at the place `at`, of these bytes
-abbrev pub stretch_of : Bool → ℕ → List ℕ → Stretch
-stretch_of last at bs = cond (agrees bs) (Kept at (record_length bs)) (cond (ltb 0 (skips last bs)) (Skipped at (skips last bs)) End)
+-- the stretch that begins at the place `at`, of these bytes, if any does
+abbrev pub stretch_of : Bool → ℕ → List ℕ → Option Stretch
+stretch_of last at bs = cond (agrees bs) (Some (Kept at (record_length bs))) (cond (ltb 0 (skips last bs)) (Some (Skipped at (skips last bs))) None)
 
-unfoldable pub stretch_at : List ℕ → ℕ → Bool → Stretch
+unfoldable pub stretch_at : List ℕ → ℕ → Bool → Option Stretch
 stretch_at log at last = stretch_of last at (drop at log)

@@ -2,9 +2,9 @@
 // buffer. They answer how many bytes it has. Each function is proved safe and to end.
 #![tactic(auto)]
 
-use log_records::{Read, read_record};
+use log_records::{Record, read_record};
 use log_salvage::{Stretch, next_stretch};
-use log_writer::{Put, Refused, put_record};
+use log_writer::{Refused, put_record};
 use printer::{front_of, put_byte, put_bytes, put_decimal};
 use script::values::{Values, count_at, number_at};
 use text::glyph_of;
@@ -60,28 +60,28 @@ pub fn logput(out: &mut [u8], values: Values, bytes: &[u8]) -> usize {
     let n = front_of(bytes, count_at(values, 1));
     let room = front_of(&area, count_at(values, 2));
     match put_record(kind, &bytes[..n], &mut area[..room]) {
-        Put::Done(len) => put_record_of(out, &area, len),
-        Put::Not(r) => put_refused(out, r),
+        Ok(len) => put_record_of(out, &area, len),
+        Err(r) => put_refused(out, r),
     }
 }
 
 // kind PAYLOAD next
-fn put_read(out: &mut [u8], log: &[u8], kind: u8, start: usize, n: usize, next: usize) -> usize {
+fn put_read(out: &mut [u8], log: &[u8], record: Record) -> usize {
     let p1 = put_bytes(out, 0, b"ok ");
-    let p2 = put_decimal(out, p1, kind as u64);
+    let p2 = put_decimal(out, p1, record.kind as u64);
     let p3 = put_byte(out, p2, 32);
-    let p4 = put_hexes(out, p3, log, start, behind(start, n));
+    let p4 = put_hexes(out, p3, log, record.from, behind(record.from, record.length));
     let p5 = or_dash(out, p3, p4);
     let p6 = put_byte(out, p5, 32);
-    put_decimal(out, p6, next as u64)
+    put_decimal(out, p6, record.next as u64)
 }
 
 // The record at a place.
 pub fn logread(out: &mut [u8], values: Values, bytes: &[u8]) -> usize {
     let n = front_of(bytes, count_at(values, 1));
     match read_record(&bytes[..n], count_at(values, 0)) {
-        Read::Record(kind, start, len, next) => put_read(out, bytes, kind, start, len, next),
-        Read::None => put_bytes(out, 0, b"none"),
+        Some(record) => put_read(out, bytes, record),
+        None => put_bytes(out, 0, b"none"),
     }
 }
 
@@ -104,17 +104,16 @@ fn put_words(out: &mut [u8], at: usize, word: &[u8], start: usize, n: usize) -> 
 
 fn put_listed(out: &mut [u8], at: usize, stretch: Stretch) -> usize {
     match stretch {
-        Stretch::Skipped(start, n) => put_words(out, at, b"skipped ", start, n),
-        Stretch::Kept(start, n) => put_words(out, at, b"kept ", start, n),
-        Stretch::End => at,
+        Stretch::Skipped { start, length } => put_words(out, at, b"skipped ", start, length),
+        Stretch::Kept { start, length } => put_words(out, at, b"kept ", start, length),
     }
 }
 
 // The bytes of a stretch that is kept.
 fn put_kept(out: &mut [u8], at: usize, log: &[u8], stretch: Stretch) -> usize {
     match stretch {
-        Stretch::Kept(start, n) => put_hexes(out, at, log, start, behind(start, n)),
-        _ => at,
+        Stretch::Kept { start, length } => put_hexes(out, at, log, start, behind(start, length)),
+        Stretch::Skipped { .. } => at,
     }
 }
 
@@ -129,9 +128,7 @@ fn put_stretch(out: &mut [u8], at: usize, log: &[u8], stretch: Stretch, listed: 
 // Where the next stretch begins.
 fn next_of(stretch: Stretch) -> usize {
     match stretch {
-        Stretch::Skipped(start, n) => behind(start, n),
-        Stretch::Kept(start, n) => behind(start, n),
-        Stretch::End => usize::MAX,
+        Stretch::Skipped { start, length } | Stretch::Kept { start, length } => behind(start, length),
     }
 }
 
@@ -140,8 +137,9 @@ fn put_walk(out: &mut [u8], at: usize, log: &[u8], listed: bool) -> usize {
     let mut p = at;
     let mut place = 0;
     let mut turns = log.len();
-    while turns > 0 && place < log.len() {
-        let stretch = next_stretch(log, place, true);
+    while turns > 0
+        && let Some(stretch) = next_stretch(log, place, true)
+    {
         p = put_stretch(out, p, log, stretch, listed);
         place = next_of(stretch);
         turns -= 1;

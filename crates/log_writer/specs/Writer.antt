@@ -1,11 +1,9 @@
 -- Document 02, R-12: what the writer says, and the lent bytes then. Definitions only.
-use Rattle.std.specs.Prelude.{List, [], ◌++◌, ℕ, ◌+◌, leb, length, drop}
+use Rattle.std.specs.Prelude.{List, [], ◌++◌, ℕ, ◌+◌, leb, length, drop, Result, Ok, Err}
 use Rattle.error.specs.Refusals.{Said, given, refused, unless}
 use Rattle.log_records.specs.Records.{is_kind, record_of}
 use Rattle.log_writer.specs.declared.Refused.{Refused}
 use Rattle.log_writer.specs.declared.Refused.TheVariants.{UnknownKind, PayloadTooLong, NoRoom}
-use Rattle.log_writer.specs.declared.Put.{Put}
-use Rattle.log_writer.specs.declared.Put.TheVariants.{Done, Not}
 
 -- "Refusals: 11 unknown kind, 21 payload too long, 22 no room"
 abbrev pub number_of : Refused → ℕ
@@ -13,9 +11,9 @@ number_of UnknownKind = 11
 number_of PayloadTooLong = 21
 number_of NoRoom = 22
 
-abbrev pub said_put : Put → Said ℕ
-said_put (Done n) = given n
-said_put (Not r) = refused (number_of r) []
+abbrev pub said_put : Result ℕ Refused → Said ℕ
+said_put (Ok n) = given n
+said_put (Err r) = refused (number_of r) []
 
 -- in that order; else the bytes that the record has
 unfoldable pub put_said : ℕ → List ℕ → ℕ → Said ℕ

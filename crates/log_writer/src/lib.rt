@@ -16,13 +16,6 @@ pub enum Refused {
     NoRoom,
 }
 
-// What the writer answers: how many bytes the record has, or why it wrote none.
-#[derive(Clone, Copy)]
-pub enum Put {
-    Done(usize),
-    Not(Refused),
-}
-
 // The refusal's number in document 02.
 pub fn number(r: Refused) -> u64
     ensures { result ≡ number_of r }
@@ -75,18 +68,18 @@ fn write(kind: u64, payload: &[u8], out: &mut [u8]) -> usize
 // Puts a record of that kind and payload at the front of `out`, and answers how many bytes it has. Takes the
 // kinds 1 to 4 (refusal 11), up to 64 bytes of payload (21) and an `out` that holds the record (22); a
 // refusal leaves `out` as it is.
-pub fn put_record(kind: u64, payload: &[u8], out: &mut [u8]) -> Put
+pub fn put_record(kind: u64, payload: &[u8], out: &mut [u8]) -> Result<usize, Refused>
     ensures answer { said_put result ≡ put_said kind payload.now (length out.old) }
     ensures area { out.new ≡ put_area kind payload.now out.old }
 {
     if !is_kind(kind) {
-        return Put::Not(Refused::UnknownKind);
+        return Err(Refused::UnknownKind);
     }
     if payload.len() > 64 {
-        return Put::Not(Refused::PayloadTooLong);
+        return Err(Refused::PayloadTooLong);
     }
     if out.len() < 7 + payload.len() {
-        return Put::Not(Refused::NoRoom);
+        return Err(Refused::NoRoom);
     }
-    Put::Done(write(kind, payload, out))
+    Ok(write(kind, payload, out))
 }

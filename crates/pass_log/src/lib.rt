@@ -4,13 +4,13 @@
 #![tactic(auto)]
 
 use log_calls::{put_block, put_setting, put_start};
-use log_writer::Put;
+use log_writer::Refused;
 use printer::front_of;
 use system::{Fd, System};
 
 // Writes the record that was put at the front of the bytes.
-fn is_written(sys: &mut System, fd: Fd, put: Put, record: &[u8]) -> bool {
-    let Put::Done(n) = put else {
+fn is_written(sys: &mut System, fd: Fd, put: Result<usize, Refused>, record: &[u8]) -> bool {
+    let Ok(n) = put else {
         return false;
     };
     let k = front_of(record, n);

@@ -109,21 +109,21 @@ fn turn(sys: &mut System, r: Run, f: Files, buf: &mut [u8]) -> Run
     let end = part.end;
     let s = next_stretch(&buf[..end], at, part.last);
     match s {
-        Stretch::Kept(_, n) => Run {
+        Some(Stretch::Kept { length, .. }) => Run {
             walk: after(walk, s),
-            part: passed(part, n),
-            listed: keep(sys, listed, walk, f.output, &buf[at..at + n]),
+            part: passed(part, length),
+            listed: keep(sys, listed, walk, f.output, &buf[at..at + length]),
             clock,
             going: true,
         },
-        Stretch::Skipped(_, n) => Run {
+        Some(Stretch::Skipped { length, .. }) => Run {
             walk: after(walk, s),
-            part: passed(part, n),
+            part: passed(part, length),
             listed,
             clock,
             going: true,
         },
-        Stretch::End => {
+        None => {
             if part.last {
                 return ended(sys, r);
             }

@@ -4,7 +4,7 @@ use crate::page::{Page, with_told};
 use crate::progress::{Clock, ticked};
 use drift_picture::Chart;
 use log_parts::Walk;
-use log_records::{Read, read_record};
+use log_records::{Record, read_record};
 use sheets::take_record;
 use system::System;
 use tally::plus;
@@ -86,25 +86,24 @@ fn with_call(
     c
 }
 
-// The payload is the n bytes of the record from the place `from` on.
+// The record that stands in these bytes, by its kind and payload.
 fn with_payload(
     sys: &mut System,
     b: Book,
     log: Log,
     w: Walk,
-    kind: u8,
-    record: &[u8],
-    from: usize,
-    n: usize,
+    record: Record,
+    bytes: &[u8],
     chart: &mut Option<Chart>,
 ) -> Book {
-    if from > record.len() {
+    if record.from > bytes.len() {
         return b;
     }
-    if n > record.len() - from {
+    let rest = &bytes[record.from..];
+    if record.length > rest.len() {
         return b;
     }
-    with_call(sys, b, log, w, kind, &record[from..from + n], chart)
+    with_call(sys, b, log, w, record.kind, &rest[..record.length], chart)
 }
 
 // The record that these bytes are, at the walk's place, and what is skipped in front of it.
@@ -113,17 +112,15 @@ pub fn with_record(
     b: Book,
     log: Log,
     w: Walk,
-    record: &[u8],
+    bytes: &[u8],
     chart: &mut Option<Chart>,
 ) -> Book {
     let mut seen = counted(b.seen, w);
     seen.records = plus(seen.records, 1);
     let mut c = b;
     c.seen = seen;
-    match read_record(record, 0) {
-        Read::Record(kind, from, n, _) => with_payload(
-            sys, c, log, w, kind, record, from, n, chart,
-        ),
-        Read::None => c,
+    match read_record(bytes, 0) {
+        Some(record) => with_payload(sys, c, log, w, record, bytes, chart),
+        None => c,
     }
 }

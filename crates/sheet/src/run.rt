@@ -98,9 +98,9 @@ fn turn(sys: &mut System, r: Run, log: Log, buf: &mut [u8], chart: &mut Option<C
     let end = part.end;
     let s = next_stretch(&buf[..end], at, part.last);
     match s {
-        Stretch::Kept(_, n) => {
-            let next = passed(part, n);
-            let book = with_record(sys, book, log, walk, &buf[at..at + n], chart);
+        Some(Stretch::Kept { length, .. }) => {
+            let next = passed(part, length);
+            let book = with_record(sys, book, log, walk, &buf[at..at + length], chart);
             Run {
                 walk: after(walk, s),
                 part: next,
@@ -108,13 +108,13 @@ fn turn(sys: &mut System, r: Run, log: Log, buf: &mut [u8], chart: &mut Option<C
                 going: true,
             }
         }
-        Stretch::Skipped(_, n) => Run {
+        Some(Stretch::Skipped { length, .. }) => Run {
             walk: after(walk, s),
-            part: passed(part, n),
+            part: passed(part, length),
             book,
             going: true,
         },
-        Stretch::End => {
+        None => {
             if part.last {
                 return ended(r);
             }

@@ -4,7 +4,7 @@ use big::Big;
 use lines::{End, Line, add_block, start_line};
 use log_calls::{put_block, put_setting, put_start};
 use log_words::put_hexes;
-use log_writer::Put;
+use log_writer::Refused;
 use printer::{front_of, put_byte, put_bytes};
 
 // All in one row: 1 where there is a line; how many bytes the log has; 1 where a record has found no room,
@@ -132,13 +132,13 @@ fn with_lined(before: Live, lined: Result<Line, End>) -> Live {
 }
 
 // The log with what was put behind it, of no more bytes than a record has.
-fn with(before: Live, put: Put) -> Live {
+fn with(before: Live, put: Result<usize, Refused>) -> Live {
     let mut v = before;
     match put {
-        Put::Done(n) => {
+        Ok(n) => {
             v[1] = log_words::behind(before[1] as usize, n) as u64;
         }
-        Put::Not(_) => {
+        Err(_) => {
             v[2] = 1;
         }
     }

@@ -2,7 +2,7 @@
 // the bits of a sample.
 use crate::texts::{put_end, put_line, put_total};
 use lines::{End, Line};
-use log_records::{Read, read_record};
+use log_records::{Record, read_record};
 use log_salvage::{Stretch, next_stretch};
 use log_words::behind;
 use printer::{front_of, put_byte, put_bytes};
@@ -60,12 +60,12 @@ fn told(out: &mut [u8], w: Walk, turn: Turn, place: usize) -> Walk {
     }
 }
 
-// After a record whose payload has n bytes from a place on.
-fn judged(sheet: Sheet, log: &[u8], kind: u8, from: usize, n: usize) -> Turn {
-    let a = front_of(log, from);
+// After a record, which stands in the log.
+fn judged(sheet: Sheet, log: &[u8], record: Record) -> Turn {
+    let a = front_of(log, record.from);
     let rest = &log[a..];
-    let k = front_of(rest, n);
-    take_record(sheet, kind, &rest[..k])
+    let k = front_of(rest, record.length);
+    take_record(sheet, record.kind, &rest[..k])
 }
 
 fn stopped(w: Walk) -> Walk {
@@ -78,10 +78,8 @@ fn stopped(w: Walk) -> Walk {
 fn recorded(out: &mut [u8], w: Walk, log: &[u8]) -> Walk {
     let sheet = w.sheet;
     match read_record(log, w.place) {
-        Read::Record(kind, from, n, next) => {
-            told(out, w, judged(sheet, log, kind, from, n), next)
-        }
-        Read::None => stopped(w),
+        Some(record) => told(out, w, judged(sheet, log, record), record.next),
+        None => stopped(w),
     }
 }
 
@@ -94,9 +92,9 @@ fn at_place(w: Walk, place: usize) -> Walk {
 // One stretch further.
 fn walked(out: &mut [u8], w: Walk, log: &[u8]) -> Walk {
     match next_stretch(log, w.place, true) {
-        Stretch::Kept(_, _) => recorded(out, w, log),
-        Stretch::Skipped(start, n) => at_place(w, behind(start, n)),
-        Stretch::End => at_place(w, usize::MAX),
+        Some(Stretch::Kept { .. }) => recorded(out, w, log),
+        Some(Stretch::Skipped { start, length }) => at_place(w, behind(start, length)),
+        None => at_place(w, usize::MAX),
     }
 }
 
