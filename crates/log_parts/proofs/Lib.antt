@@ -1,4 +1,3 @@
 -- What the proofs cite.
 pub mod Fronts
-pub mod Stretches
 pub mod Turns

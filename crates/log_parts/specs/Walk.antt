@@ -3,6 +3,7 @@ use Rattle.std.specs.Prelude.{ℕ, ◌+◌, Option, Some, None}
 use Rattle.tally.specs.Tally.{capped}
 use Rattle.log_salvage.specs.declared.Stretch.{Stretch}
 use Rattle.log_salvage.specs.declared.Stretch.TheVariants.{Skipped, Kept}
+use Rattle.log_salvage.specs.Salvage.{size_of}
 use Rattle.log_parts.specs.declared.walk.Walk.{Walk}
 
 -- by as many bytes as it has, and one that is kept leaves nothing to be listed as skipped
@@ -13,6 +14,5 @@ walk_after w None = w
 
 -- how many bytes a stretch has, if there is one
 abbrev pub length_of : Option Stretch → ℕ
-length_of (Some (Skipped at n)) = n
-length_of (Some (Kept at n)) = n
+length_of (Some s) = size_of s
 length_of None = 0

@@ -73,6 +73,27 @@ walked_stop last part at p r w e h = omega (arith, skips_stop last (drop p part)
 pub walked_end : (last : Bool) (part : List ℕ) (at p : ℕ) → Walked last part at p → length part ≤ p → p ≡ at + skips last (drop at part)
 walked_end last part at p w h = omega (arith, skips_end last part p h, w.same)
 
+-- no more bytes are skipped than there are
+pub skips_within : (last : Bool) (bs : List ℕ) → skips last bs ≤ length bs
+unfolding skips
+skips_within last [] = omega arith
+skips_within last (b ∷ bs) = go (stops_at last (b ∷ bs)) (skips_within last bs)
+  where
+    go : (t : Bool) → skips last bs ≤ length bs → cond t 0 (suc (skips last bs)) ≤ suc (length bs)
+    go true h = omega arith
+    go false h = omega arith
+
+-- none is skipped only where too few are left to judge
+skips_none : (bs : List ℕ) → agrees bs ≡ false → skips false bs ≡ 0 → length bs < 71
+unfolding skips
+skips_none [] h e = omega arith
+skips_none (b ∷ bs) h e = go (agrees (b ∷ bs)) (ltb (length (b ∷ bs)) 71) h refl e
+  where
+    go : (a t : Bool) → a ≡ false → ltb (length (b ∷ bs)) 71 ≡ t → cond (a || t) 0 (suc (skips false bs)) ≡ 0 → length (b ∷ bs) < 71
+    go true t h k z = absurd (true≢false h)
+    go false true h k z = ltb-true (length (b ∷ bs)) 71 k
+    go false false h k z = omega arith
+
 -- ---- the stretch
 module _ (part : List ℕ) (at : ℕ) (last : Bool) where
   pub is_kept : (n : ℕ) → Some n ≡ length_at part at → Some (Kept at n) ≡ stretch_at part at last
@@ -87,6 +108,14 @@ module _ (part : List ℕ) (at : ℕ) (last : Bool) where
       let bs = drop at part in
       let k : p - at ≡ skips last bs = omega arith in
       ap (λ (i : ℕ). Some (Skipped at i)) k ∙ rw (of_none part at e, lt-ltb 0 (skips last bs) (omega arith))
+
+  pub skipped_within : (p : ℕ) → p ≡ at + skips last (drop at part) → at < p → at + (p - at) ≤ length part
+  skipped_within p q l = omega (arith, skips_within last (drop at part), length-drop at part)
+
+  pub none_short : None ≡ length_at part at → (p : ℕ) → p ≡ at + skips last (drop at part) → p ≤ at → last ≡ false → length part - at < 71
+  none_short e p q l f =
+      let z : skips last (drop at part) ≡ 0 = omega arith in
+      omega (arith, skips_none (drop at part) (of_none part at e) (sym (ap (λ (t : Bool). skips t (drop at part)) f) ∙ z), length-drop at part)
 
   pub is_end : None ≡ length_at part at → (p : ℕ) → p ≡ at + skips last (drop at part) → p ≤ at → None ≡ stretch_at part at last
   unfolding stretch_at

@@ -13,6 +13,11 @@ unfoldable pub skips : Bool → List ℕ → ℕ
 skips last [] = 0
 skips last (b ∷ bs) = cond (stops_at last (b ∷ bs)) 0 (suc (skips last bs))
 
+-- how many bytes a stretch has
+abbrev pub size_of : Stretch → ℕ
+size_of (Skipped at n) = n
+size_of (Kept at n) = n
+
 -- the stretch that begins at the place `at`, of these bytes, if any does
 abbrev pub stretch_of : Bool → ℕ → List ℕ → Option Stretch
 stretch_of last at bs = cond (agrees bs) (Some (Kept at (record_length bs))) (cond (ltb 0 (skips last bs)) (Some (Skipped at (skips last bs))) None)

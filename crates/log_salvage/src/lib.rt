@@ -2,8 +2,8 @@
 // own; who calls it copies.
 #![tactic(auto)]
 
-ghost use Rattle.std.specs.Prelude.{not, ◌≡◌, ◌+◌, ◌<◌, length, drop};
-ghost use Rattle.log_salvage.specs.Salvage.{stops_at, skips, stretch_at};
+ghost use Rattle.std.specs.Prelude.{false, not, ◌≡◌, ◌+◌, ◌-◌, ◌<◌, ◌≤◌, length, drop, IfSome};
+ghost use Rattle.log_salvage.specs.Salvage.{size_of, stops_at, skips, stretch_at};
 
 use log_records::length_at;
 
@@ -12,6 +12,17 @@ use log_records::length_at;
 pub enum Stretch {
     Skipped { start: usize, length: usize },
     Kept { start: usize, length: usize },
+}
+
+impl Stretch {
+    // How many bytes it has.
+    pub fn length(self) -> usize
+        ensures { result ≡ size_of self }
+    {
+        match self {
+            Stretch::Skipped { length, .. } | Stretch::Kept { length, .. } => length,
+        }
+    }
 }
 
 // Whether a place is passed over: no record stands there and, where the log goes on behind the part, none
@@ -38,7 +49,9 @@ fn next_place(part: &[u8], at: usize, last: bool) -> usize
 // end. At the end there is none. `last` says that the log ends where the part does; where it goes on, a
 // stretch skipped may go on with it, and where there is none, more of the log from `at` on is asked for.
 pub fn next_stretch(part: &[u8], at: usize, last: bool) -> Option<Stretch>
-    ensures { result ≡ stretch_at part.now at last }
+    ensures value { result ≡ stretch_at part.now at last }
+    ensures within { IfSome result (λ s. at + size_of s ≤ length part.now) }
+    ensures short { result ≡ None → last ≡ false → length part.now - at < 71 }
 {
     if let Some(length) = length_at(part, at) {
         return Some(Stretch::Kept { start: at, length });

@@ -107,28 +107,23 @@ fn turn(sys: &mut System, r: Run, f: Files, buf: &mut [u8]) -> Run
     let clock = r.clock;
     let at = part.at;
     let end = part.end;
-    let s = next_stretch(&buf[..end], at, part.last);
-    match s {
-        Some(Stretch::Kept { length, .. }) => Run {
-            walk: after(walk, s),
-            part: passed(part, length),
-            listed: keep(sys, listed, walk, f.output, &buf[at..at + length]),
-            clock,
-            going: true,
-        },
-        Some(Stretch::Skipped { length, .. }) => Run {
-            walk: after(walk, s),
-            part: passed(part, length),
-            listed,
-            clock,
-            going: true,
-        },
-        None => {
-            if part.last {
-                return ended(sys, r);
-            }
-            read_on(sys, r, f, buf)
+    let Some(stretch) = next_stretch(&buf[..end], at, part.last) else {
+        if part.last {
+            return ended(sys, r);
         }
+        return read_on(sys, r, f, buf);
+    };
+    let n = stretch.length();
+    let listed = match stretch {
+        Stretch::Kept { .. } => keep(sys, listed, walk, f.output, &buf[at..at + n]),
+        Stretch::Skipped { .. } => listed,
+    };
+    Run {
+        walk: after(walk, Some(stretch)),
+        part: passed(part, n),
+        listed,
+        clock,
+        going: true,
     }
 }
 

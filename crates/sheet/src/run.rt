@@ -96,30 +96,22 @@ fn turn(sys: &mut System, r: Run, log: Log, buf: &mut [u8], chart: &mut Option<C
     let book = r.book;
     let at = part.at;
     let end = part.end;
-    let s = next_stretch(&buf[..end], at, part.last);
-    match s {
-        Some(Stretch::Kept { length, .. }) => {
-            let next = passed(part, length);
-            let book = with_record(sys, book, log, walk, &buf[at..at + length], chart);
-            Run {
-                walk: after(walk, s),
-                part: next,
-                book,
-                going: true,
-            }
+    let Some(stretch) = next_stretch(&buf[..end], at, part.last) else {
+        if part.last {
+            return ended(r);
         }
-        Some(Stretch::Skipped { length, .. }) => Run {
-            walk: after(walk, s),
-            part: passed(part, length),
-            book,
-            going: true,
-        },
-        None => {
-            if part.last {
-                return ended(r);
-            }
-            read_on(sys, r, log, buf)
-        }
+        return read_on(sys, r, log, buf);
+    };
+    let n = stretch.length();
+    let book = match stretch {
+        Stretch::Kept { .. } => with_record(sys, book, log, walk, &buf[at..at + n], chart),
+        Stretch::Skipped { .. } => book,
+    };
+    Run {
+        walk: after(walk, Some(stretch)),
+        part: passed(part, n),
+        book,
+        going: true,
     }
 }
 
