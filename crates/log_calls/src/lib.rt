@@ -60,7 +60,14 @@ pub fn put_start(kind: u64, index: f64, out: &mut [u8]) -> Result<usize, Refused
 // The record of an accepted block: its sizes, of which the lowest four bytes are kept (the sizes of a block
 // are below 2^32), its starting step, its increment (0 where it has no frames) and the index that it
 // leaves.
-pub fn put_block(output: usize, input: usize, t: f64, d: f64, index: f64, out: &mut [u8]) -> Result<usize, Refused>
+pub fn put_block(
+    output: usize,
+    input: usize,
+    t: f64,
+    d: f64,
+    index: f64,
+    out: &mut [u8],
+) -> Result<usize, Refused>
     ensures answer { said_put result ≡ put_said 3 (block_payload output input t d index) (length out.old) }
     ensures area { out.new ≡ put_area 3 (block_payload output input t d index) out.old }
 {

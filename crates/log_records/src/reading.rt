@@ -77,7 +77,11 @@ pub fn length_at(log: &[u8], at: usize) -> Option<usize>
     if log.len() - at < 7 + n {
         return None;
     }
-    if sum_agrees(log, at, n) { Some(7 + n) } else { None }
+    if sum_agrees(log, at, n) {
+        Some(7 + n)
+    } else {
+        None
+    }
 }
 
 // The record at the place `at`. Nothing is copied: the payload stands in the log.

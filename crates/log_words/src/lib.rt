@@ -70,7 +70,13 @@ fn put_read(out: &mut [u8], log: &[u8], record: Record) -> usize {
     let p1 = put_bytes(out, 0, b"ok ");
     let p2 = put_decimal(out, p1, record.kind as u64);
     let p3 = put_byte(out, p2, 32);
-    let p4 = put_hexes(out, p3, log, record.from, behind(record.from, record.length));
+    let p4 = put_hexes(
+        out,
+        p3,
+        log,
+        record.from,
+        behind(record.from, record.length),
+    );
     let p5 = or_dash(out, p3, p4);
     let p6 = put_byte(out, p5, 32);
     put_decimal(out, p6, record.next as u64)
@@ -128,7 +134,9 @@ fn put_stretch(out: &mut [u8], at: usize, log: &[u8], stretch: Stretch, listed: 
 // Where the next stretch begins.
 fn next_of(stretch: Stretch) -> usize {
     match stretch {
-        Stretch::Skipped { start, length } | Stretch::Kept { start, length } => behind(start, length),
+        Stretch::Skipped { start, length } | Stretch::Kept { start, length } => behind(
+            start, length,
+        ),
     }
 }
 

@@ -4,7 +4,7 @@ use Rattle.log_parts.specs.Turn.{Inside}
 use Rattle.sheet.proofs.run.turns.Given as goal
 
 abbrev pub invariant-loop-left : goal.invariant-loop-left
-invariant-loop-left l = (length l.buf ≡ length l.initial.buf) × (length l.points ≡ length l.initial.points) × Inside l.r.part l.buf
+invariant-loop-left l = (length l.buf ≡ length l.initial.buf) × Inside l.r.part l.buf
 
 abbrev pub decreases-loop-left : goal.decreases-loop-left
 decreases-loop-left l = l.left
