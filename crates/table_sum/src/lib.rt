@@ -22,6 +22,7 @@ fn plus_entry(sum: TableSum, entry: f64) -> TableSum
 
 // The sum of a table of any length. Two tables that differ in one entry, or in the order of two neighbours,
 // have different sums; other tables may share one.
+#[tactic(auto, using(crate::proofs::Sums::summed_next, crate::proofs::Sums::summed_done))]
 pub fn sum_of(table: &[f64]) -> TableSum
     ensures { result ≡ sum_of table.now }
 {
