@@ -57,30 +57,30 @@ pub fn lin_on(x: f64, y0: f64, y1: f64) -> f64
 pub fn interp_cubic(x: f64, ys: &[f64]) -> Result<f64, Refusal>
     ensures { said_answer result ≡ blend_said 4 sinc_cubic x ys.now }
 {
-    if ys.len() != 4 {
+    let [y0, y1, y2, y3] = *ys else {
         return Err(Refusal::Argument);
-    }
-    Ok(cubic_on(x, ys[0], ys[1], ys[2], ys[3]))
+    };
+    Ok(cubic_on(x, y0, y1, y2, y3))
 }
 
 // The value at x of the quadratic polynomial through three samples, at 0, 1 and 2.
 pub fn interp_quad(x: f64, ys: &[f64]) -> Result<f64, Refusal>
     ensures { said_answer result ≡ blend_said 3 sinc_quad x ys.now }
 {
-    if ys.len() != 3 {
+    let [y0, y1, y2] = *ys else {
         return Err(Refusal::Argument);
-    }
-    Ok(quad_on(x, ys[0], ys[1], ys[2]))
+    };
+    Ok(quad_on(x, y0, y1, y2))
 }
 
 // The value at x on the line through two samples, at 0 and 1.
 pub fn interp_lin(x: f64, ys: &[f64]) -> Result<f64, Refusal>
     ensures { said_answer result ≡ blend_said 2 linear x ys.now }
 {
-    if ys.len() != 2 {
+    let [y0, y1] = *ys else {
         return Err(Refusal::Argument);
-    }
-    Ok(lin_on(x, ys[0], ys[1]))
+    };
+    Ok(lin_on(x, y0, y1))
 }
 
 // What each of the four samples counts for in the cubic at x.

@@ -1,0 +1,2 @@
+-- Laws of the blends' answers. Assumes nothing.
+pub mod Said
