@@ -1,17 +1,7 @@
--- The table of the cutoff: every window has a row, and which decimals the constants are. Assumes nothing.
-use Rattle.std.proofs.Common.{◌≡◌, ℕ, ◌^◌, ◌<◌, false, [], ◌∷◌, refl, arith}
+-- The table of the cutoff: which decimals the constants are. Assumes nothing.
+use Rattle.std.proofs.Common.{◌≡◌, ℕ, ◌^◌, false, [], ◌∷◌, refl}
 use lib.Ieee.{Float, binary64, round, of_bits}
-use Rattle.windows.specs.declared.WindowFunction.{WindowFunction}
-use Rattle.windows.specs.declared.WindowFunction.TheVariants.{Blackman, Blackman2, BlackmanHarris, BlackmanHarris2, Hann, Hann2}
-use Rattle.windows.specs.Cutoff.{row_of, cutoff_rows}
-
-pub row_within : (w : WindowFunction) → row_of w < 6
-row_within Blackman = omega arith
-row_within Blackman2 = omega arith
-row_within BlackmanHarris = omega arith
-row_within BlackmanHarris2 = omega arith
-row_within Hann = omega arith
-row_within Hann2 = omega arith
+use Rattle.windows.specs.Cutoff.{cutoff_rows}
 
 -- the double nearest to m / 10 ^ d
 abbrev decimal : ℕ → ℕ → Float

@@ -29,26 +29,11 @@ const CUTOFF: [[f64; 3]; 6] = [
     [5.38751148378734, 29.69451915489501, 184.82117462266237],
 ];
 
-// The place of a window's row.
-fn row_of(window: WindowFunction) -> usize
-    ensures { result ≡ row_of window }
-{
-    match window {
-        WindowFunction::Blackman => 0,
-        WindowFunction::Blackman2 => 1,
-        WindowFunction::BlackmanHarris => 2,
-        WindowFunction::BlackmanHarris2 => 3,
-        WindowFunction::Hann => 4,
-        WindowFunction::Hann2 => 5,
-    }
-}
-
 // A window's constants.
 fn constants(window: WindowFunction) -> [f64; 3]
     ensures { result ≡ slice_index_or cutoff_rows (row_of window) [] }
 {
-    let i = row_of(window);
-    CUTOFF[i]
+    CUTOFF[window as usize]
 }
 
 // The formula of document 01, for the number of points n as a double.
