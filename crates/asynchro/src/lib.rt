@@ -15,7 +15,7 @@ ghost use Rattle.asynchro.specs.Calls.{
 };
 
 use error::Refusal;
-use state::State;
+use state::{Measured, State};
 
 // What a call on a record leaves: the new record, or on a refusal the record given, and what it answers.
 #[derive(Clone, Copy)]
@@ -51,7 +51,7 @@ fn relative_ratio_in_bounds(m: f64, rel: f64) -> bool
 fn apply_ratio(s: State, accepted: bool, r: f64, ramp: bool) -> Result<State, Refusal>
     ensures { said_result result ≡ applied s accepted r ramp }
 {
-    state::check(s)?;
+    let tested = state::check(s)?;
     if !accepted {
         return Err(Refusal::RatioOutOfBounds(r, s.original, s.m));
     }
@@ -66,7 +66,11 @@ fn apply_ratio(s: State, accepted: bool, r: f64, ramp: bool) -> Result<State, Re
         next.current = r;
         next.now = step;
     }
-    state::update_lengths(next)
+    let set = Measured {
+        state: next,
+        most: tested.most,
+    };
+    set.update_lengths()
 }
 
 // An absolute setting: refusals 11, 10, 4, 5, 6.
@@ -90,11 +94,15 @@ pub fn set_resample_ratio_relative(s: State, rel: f64, ramp: bool) -> Outcome<()
 fn apply_chunk(s: State, n: usize) -> Result<State, Refusal>
     ensures { said_result result ≡ chunked s n }
 {
-    state::check(s)?;
+    let tested = state::check(s)?;
     if !((1 <= n) & (n <= s.chunk0)) {
         return Err(Refusal::InvalidChunkSize);
     }
-    state::update_lengths(State { chunk: n, ..s })
+    let resized = Measured {
+        state: State { chunk: n, ..s },
+        most: tested.most,
+    };
+    resized.update_lengths()
 }
 
 // A chunk setting: refusals 11, 10, 3, 6.

@@ -1,8 +1,7 @@
 // Construction of a ratio state. Document 01: "The ratio state", "Refusal numbers".
 #![tactic(auto)]
 
-ghost use Rattle.std.specs.Prelude.{◌≡◌, true};
-ghost use Rattle.kinds.specs.Kinds.{kind_holds};
+ghost use Rattle.std.specs.Prelude.{◌≡◌};
 ghost use Rattle.error.specs.Refusals.{said_result};
 ghost use Rattle.construction.specs.Construction.{fresh_state, first_lengths, construct};
 
@@ -11,7 +10,7 @@ use asynchro_sinc::SincInterpolationType;
 use error::Refusal;
 use kinds::Kind;
 use sizes::FixedAsync;
-use state::State;
+use state::{Measured, State};
 
 // The record before its sizes are worked out.
 fn fresh_state(
@@ -45,15 +44,13 @@ fn fresh_state(
 }
 
 // Construction's last rungs: 6, and the fill.
-fn first_lengths(s: State) -> Result<State, Refusal>
-    requires { kind_holds s.kind ≡ true }
-    ensures { said_result result ≡ first_lengths s }
+fn first_lengths(measured: Measured) -> Result<State, Refusal>
+    ensures { said_result result ≡ first_lengths measured.state }
 {
-    let most = state::max_input_of(s);
-    if !state::maxima_hold(s, most) {
+    if !measured.maxima_hold() {
         return Err(Refusal::SizeTooLarge);
     }
-    let sized = state::update_lengths_of(s, most)?;
+    let sized = measured.update_lengths()?;
     Ok(State {
         fill: sized.input,
         ..sized
@@ -89,7 +86,8 @@ pub fn new_kind(
     if !bounds::is_channels(channels) {
         return Err(Refusal::Channels);
     }
-    first_lengths(fresh_state(r, m, kind, chunk, channels, fixed))
+    let fresh = fresh_state(r, m, kind, chunk, channels, fixed);
+    first_lengths(Measured::of(fresh))
 }
 
 // A polynomial of this degree: never refused 11.

@@ -31,11 +31,10 @@ pub fn area_length(channels: usize, frames: usize) -> usize
 pub fn work_length(s: State) -> usize
     ensures { result ≡ work_length s }
 {
-    let most = state::max_input_of(s);
-    if !state::is_state_of(s, most) {
-        return 0;
+    match state::check(s) {
+        Ok(tested) => s.channels * shape::stride_of(tested),
+        Err(_) => 0,
     }
-    s.channels * shape::stride_of(s, most)
 }
 
 // The block on an output of zeros.

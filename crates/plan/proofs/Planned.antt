@@ -6,15 +6,13 @@ use Prim.Native.Nat.{ℕ}
 use borrow.Author.Tests.{eq-eqb, ne_eqb}
 use lib.Ieee.{Float}
 use Rattle.exact.specs.Doubles.{◌-f◌, ◌/f◌, count, zero_f}
-use Rattle.error.specs.declared.Refusal.{Refusal}
-use Rattle.error.specs.Refusals.{Said, refused, number_of, values_of}
+use Rattle.error.specs.Refusals.{Said, refused}
 use Rattle.error.proofs.Ladder.{pass, stop}
 use Rattle.sizes.specs.Sizes.{start_of}
 use Rattle.state.specs.declared.State.{State}
 use Rattle.steps.specs.Steps.{step_of}
-use Rattle.state.specs.Record.{points_in, step_now_of, step_then_of, is_state, fault_of, changed, update_lengths}
-use Rattle.state.proofs.Checked.{kind_of, check_stop, check_pass}
-use Rattle.kinds.specs.Kinds.{kind_holds}
+use Rattle.state.specs.Record.{points_in, step_now_of, step_then_of, is_state, changed, update_lengths}
+use Rattle.state.proofs.Checked.{check_pass}
 use Rattle.path.specs.Path.{path_at}
 use Rattle.path.specs.Sites.{all_reach}
 use Rattle.shape.specs.Shape.{shape_holds}
@@ -37,16 +35,8 @@ pub after_is : (s : State) (i n : Float) → i ≡ index_after s → n ≡ count
     → changed s s.chunk s.input s.output s.input (i -f n) s.target s.target s.then s.then ≡ after_block s
 after_is s i n h e = rw (h, e)
 
--- ---- the record to come is of the same kind
-pub kind_kept : (s t u : State) → t ≡ u → u.kind ≡ s.kind → is_state s ≡ true → kind_holds t.kind ≡ true
-kind_kept s t u e k h = rw (e, k) (kind_of s h)
-
 -- ---- a block's ladder, rung by rung
 module _ (s : State) (frames mask table input output work : ℕ) where
-  pub record_refused : (r : Refusal) → r ≡ fault_of s → is_state s ≡ false → refused (number_of r) (values_of r) ≡ planned s frames mask table input output work
-  unfolding planned
-  record_refused r e h = rw e (check_stop s _ h)
-
   pub shape_refused : is_state s ≡ true → shape_holds s frames mask table input output work ≡ false → refused 8 [] ≡ planned s frames mask table input output work
   unfolding planned
   shape_refused a h = check_pass s _ _ a (stop _ _ _ _ h)
@@ -60,10 +50,6 @@ module _ (s : State) (frames mask table input output work : ℕ) where
   block_made x a b c h = check_pass s _ _ a (pass _ _ _ _ _ b (pass _ _ _ _ _ c h))
 
 -- ---- reset
-pub reset_fault : (s : State) (work : ℕ) (r : Refusal) → r ≡ fault_of s → is_state s ≡ false → refused (number_of r) (values_of r) ≡ resetting s work
-unfolding resetting
-reset_fault s work r e h = rw e (check_stop s _ h)
-
 pub restored_is : (s : State) (t i : Float) (l : ℕ) → t ≡ step_of s.original → l ≡ points_in s → i ≡ start_of l
     → changed s s.chunk0 s.input s.output s.fill i s.original s.original t t ≡ restored s
 restored_is s t i l k h e = rw (e, h, k)

@@ -2,9 +2,8 @@
 // the areas' lengths alone: no sample is looked at. Only our own crates call these functions.
 #![tactic(auto)]
 
-ghost use Rattle.std.specs.Prelude.{◌≡◌, true};
+ghost use Rattle.std.specs.Prelude.{◌≡◌};
 ghost use Rattle.error.specs.Refusals.{said_result};
-ghost use Rattle.state.specs.Record.{is_state};
 ghost use Rattle.plan.specs.Plan.{
   increment_of,
   reach_holds,
@@ -16,7 +15,8 @@ ghost use Rattle.plan.specs.Plan.{
 };
 
 use error::Refusal;
-use state::State;
+use shape::Lent;
+use state::{Measured, State, Tested};
 
 // The ramp's increment, of a record that has passed the StateRecord test; 0 where there is no frame to
 // use it.
@@ -31,15 +31,14 @@ pub fn t_ratio_increment(s: State) -> f64
 }
 
 // Refusal 9's test, and the index after the last frame.
-fn look(s: State) -> path::Looked
-    requires { is_state s ≡ true }
-    ensures reach { result.reach ≡ reach_holds s }
-    ensures index { result.index ≡ index_after s }
+fn look(tested: Tested) -> path::Looked
+    ensures reach { result.reach ≡ reach_holds tested.state }
+    ensures index { result.index ≡ index_after tested.state }
 {
+    let s = tested.state;
     let t = state::step_now(s);
     let d = t_ratio_increment(s);
-    let kind = s.kind;
-    path::look(kind, s.input, t, d, s.index, s.output)
+    path::look(s.kind, s.input, t, d, s.index, s.output)
 }
 
 // The record after a block whose last index is `index`, before its sizes are worked out.
@@ -56,27 +55,22 @@ fn after_block(s: State, index: f64) -> State
 }
 
 // The first pass: refusals 11, 10, 8, 9, 6, or the record that the block leaves.
-pub fn plan(
-    s: State,
-    frames: usize,
-    mask: u64,
-    table: usize,
-    input: usize,
-    output: usize,
-    work: usize,
-) -> Result<State, Refusal>
-    ensures { said_result result ≡ planned s frames mask table input output work }
+pub fn plan(s: State, lent: Lent) -> Result<State, Refusal>
+    ensures { said_result result ≡ planned s lent.frames lent.mask lent.table lent.input lent.output lent.work }
 {
-    let most = state::max_input_of(s);
-    state::check_of(s, most)?;
-    if !shape::validate_buffers(s, most, frames, mask, table, input, output, work) {
+    let tested = state::check(s)?;
+    if !shape::validate_buffers(tested, lent) {
         return Err(Refusal::BufferShape);
     }
-    let seen = look(s);
+    let seen = look(tested);
     if !seen.reach {
         return Err(Refusal::Reach);
     }
-    state::update_lengths_of(after_block(s, seen.index), most)
+    let after = Measured {
+        state: after_block(s, seen.index),
+        most: tested.most,
+    };
+    after.update_lengths()
 }
 
 // The record as reset restores it, before its sizes are worked out: the fill stays.
@@ -98,10 +92,13 @@ fn restored_state(s: State) -> State
 pub fn plan_reset(s: State, work: usize) -> Result<State, Refusal>
     ensures { said_result result ≡ resetting s work }
 {
-    let most = state::max_input_of(s);
-    state::check_of(s, most)?;
-    if !shape::work_holds(s, most, work) {
+    let tested = state::check(s)?;
+    if !shape::work_holds(tested, work) {
         return Err(Refusal::BufferShape);
     }
-    state::update_lengths_of(restored_state(s), most)
+    let restored = Measured {
+        state: restored_state(s),
+        most: tested.most,
+    };
+    restored.update_lengths()
 }

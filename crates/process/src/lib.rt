@@ -15,6 +15,7 @@ ghost use Rattle.process.specs.Block.{
 };
 
 use asynchro::Outcome;
+use shape::Lent;
 use state::State;
 
 // The two sizes that a block used.
@@ -75,15 +76,15 @@ pub fn process_into_buffer(
 ) -> Outcome<Sizes>
     ensures { block_left result output.new work.new ≡ block_of s frames mask table.now input.now output.old work.old }
 {
-    match plan::plan(
-        s,
+    let lent = Lent {
         frames,
         mask,
-        table.len(),
-        input.len(),
-        output.len(),
-        work.len(),
-    ) {
+        table: table.len(),
+        input: input.len(),
+        output: output.len(),
+        work: work.len(),
+    };
+    match plan::plan(s, lent) {
         Err(r) => Outcome {
             state: s,
             answer: Err(r),

@@ -2,12 +2,10 @@
 // alone. Only our own crates call these functions.
 #![tactic(auto)]
 
-ghost use Rattle.std.specs.Prelude.{◌≡◌, true};
-ghost use Rattle.kinds.specs.Kinds.{kind_holds};
-ghost use Rattle.state.specs.Record.{max_input_of, is_state};
+ghost use Rattle.std.specs.Prelude.{◌≡◌};
 ghost use Rattle.shape.specs.Shape.{read_of, stride_of, work_holds, table_holds, share_holds, shape_holds};
 
-use state::State;
+use state::{State, Tested};
 
 // The smaller of the given count and the needed input.
 pub fn frames_to_read(s: State, frames: usize) -> usize
@@ -16,57 +14,54 @@ pub fn frames_to_read(s: State, frames: usize) -> usize
     frames.min(s.input)
 }
 
-// Samples of one channel in the working area. The record's kind has passed its test; `most`, here and below, is
-// its maximum input.
-pub fn stride_of(s: State, most: Option<usize>) -> usize
-    requires { (kind_holds s.kind ≡ true) × (most ≡ max_input_of s) }
-    ensures { result ≡ stride_of s }
+// Samples of one channel in the working area.
+pub fn stride_of(tested: Tested) -> usize
+    ensures { result ≡ stride_of tested.state }
 {
-    most.unwrap_or(0) + 2 * state::points_in(s)
+    tested.most.unwrap_or(0) + 2 * state::points_in(tested.state)
 }
 
-// The working area is of exactly the right length. s has passed the StateRecord test.
-pub fn work_holds(s: State, most: Option<usize>, work: usize) -> bool
-    requires { (is_state s ≡ true) × (most ≡ max_input_of s) }
-    ensures { result ≡ work_holds s work }
+// The working area is of exactly the right length.
+pub fn work_holds(tested: Tested, work: usize) -> bool
+    ensures { result ≡ work_holds tested.state work }
 {
-    work == s.channels * stride_of(s, most)
+    work == tested.state.channels * stride_of(tested)
 }
 
 // The table is of exactly the right length.
-fn table_holds(s: State, table: usize) -> bool
-    requires { is_state s ≡ true }
-    ensures { result ≡ table_holds s table }
+fn table_holds(tested: Tested, table: usize) -> bool
+    ensures { result ≡ table_holds tested.state table }
 {
-    let kind = s.kind;
-    table == kinds::table_length(kind)
+    table == kinds::table_length(tested.state.kind)
 }
 
 // A lent area is whole shares, each of at least so many frames.
-fn share_holds(s: State, area: usize, frames: usize) -> bool
-    requires { is_state s ≡ true }
-    ensures { result ≡ share_holds s area frames }
+fn share_holds(tested: Tested, area: usize, frames: usize) -> bool
+    ensures { result ≡ share_holds tested.state area frames }
 {
-    (area % s.channels == 0) & (frames <= area / s.channels)
+    let channels = tested.state.channels;
+    (area % channels == 0) & (frames <= area / channels)
 }
 
-// Refusal 8's test. s has passed the StateRecord test.
-pub fn validate_buffers(
-    s: State,
-    most: Option<usize>,
-    frames: usize,
-    mask: u64,
-    table: usize,
-    input: usize,
-    output: usize,
-    work: usize,
-) -> bool
-    requires { (is_state s ≡ true) × (most ≡ max_input_of s) }
-    ensures { result ≡ shape_holds s frames mask table input output work }
+// What a block is lent: the frames given, the mask, and the lengths of the table and of the three areas.
+#[derive(Clone, Copy, Debug, PartialEq, Eq)]
+pub struct Lent {
+    pub frames: usize,
+    pub mask: u64,
+    pub table: usize,
+    pub input: usize,
+    pub output: usize,
+    pub work: usize,
+}
+
+// Refusal 8's test.
+pub fn validate_buffers(tested: Tested, lent: Lent) -> bool
+    ensures { result ≡ shape_holds tested.state lent.frames lent.mask lent.table lent.input lent.output lent.work }
 {
-    share_holds(s, input, frames_to_read(s, frames))
-        & share_holds(s, output, s.output)
-        & work_holds(s, most, work)
-        & table_holds(s, table)
-        & channel::mask_fits(mask, s.channels)
+    let s = tested.state;
+    share_holds(tested, lent.input, frames_to_read(s, lent.frames))
+        & share_holds(tested, lent.output, s.output)
+        & work_holds(tested, lent.work)
+        & table_holds(tested, lent.table)
+        & channel::mask_fits(lent.mask, s.channels)
 }

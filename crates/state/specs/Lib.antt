@@ -1,2 +1,3 @@
 -- The state record and the StateRecord test. Definitions only.
 pub mod Record
+pub mod Checks

@@ -1,9 +1,7 @@
 -- The state record: its steps and sizes, the StateRecord test, and the one end of every call. Definitions only.
-use Rattle.std.specs.Prelude.{Bool, cond, ◌&&◌, [], ℕ, leb, Float, Option, is_some}
+use Rattle.std.specs.Prelude.{Bool, ◌&&◌, [], ℕ, leb, Float, Option, is_some}
 use Rattle.exact.specs.Doubles.{at_least_one}
 use Rattle.error.specs.Refusals.{Said, given, unless}
-use Rattle.error.specs.declared.Refusal.{Refusal}
-use Rattle.error.specs.declared.Refusal.TheVariants as refusal
 use Rattle.kinds.specs.Kinds.{points_of, kind_holds}
 use Rattle.steps.specs.Steps.{is_step}
 use Rattle.state.specs.declared.State.{State}
@@ -62,10 +60,6 @@ is_state s = kind_holds s.kind && counts_hold s && ratios_hold s && steps_hold s
 -- The first rungs of every call on a record. Document 02, R-4: "other points or factors 11, first"; document 01: "10, ..", "Questions about a state: 10 only"
 abbrev pub checked : {A : Type 0} → State → Said A → Said A
 checked s next = unless (kind_holds s.kind) 11 [] (unless (is_state s) 10 [] next)
-
--- the refusal of a record that does not pass
-abbrev pub fault_of : State → Refusal
-fault_of s = cond (kind_holds s.kind) refusal.StateRecord refusal.Argument
 
 -- a record with other values of the fields that calls change; the others never change
 abbrev pub changed : State → ℕ → ℕ → ℕ → ℕ → Float → Float → Float → Float → Float → State

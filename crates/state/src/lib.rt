@@ -1,30 +1,25 @@
 // The state record: its steps and sizes, the StateRecord test, and the one end of every call.
 #![tactic(auto)]
 
-ghost use Rattle.std.specs.Prelude.{◌≡◌, true};
-ghost use Rattle.error.specs.Refusals.{given, said_result};
-ghost use Rattle.kinds.specs.Kinds.{kind_holds};
+ghost use Rattle.std.specs.Prelude.{◌≡◌};
 ghost use Rattle.state.specs.Record.{
   step_now_of,
   step_then_of,
   points_in,
   input_of,
-  output_of,
   max_input_of,
   max_output_of,
   counts_hold,
   ratios_hold,
   steps_hold,
-  maxima_hold,
-  sizes_hold,
-  is_state,
-  fault_of,
-  checked,
-  update_lengths,
 };
 
-use error::Refusal;
+mod checks;
+mod measured;
+
+pub use checks::{check, is_state};
 use kinds::Kind;
+pub use measured::{Measured, Tested};
 use sizes::FixedAsync;
 
 // Document 01, "The ratio state". `chunk0` is the construction chunk, `input` and `output` are the
@@ -80,17 +75,6 @@ pub fn input_of(s: State) -> Option<usize>
     sizes::calculate_input_size(fixed, points_in(s), s.chunk, s.index, t1, t2)
 }
 
-// `output_of` and `update_lengths` ask that the kind has passed its test; only our own crates call these.
-pub fn output_of(s: State) -> Option<usize>
-    requires { kind_holds s.kind ≡ true }
-    ensures { result ≡ output_of s }
-{
-    let t1 = step_now(s);
-    let t2 = step_then(s);
-    let fixed = s.fixed;
-    sizes::calculate_output_size(fixed, points_in(s), s.chunk, s.index, t1, t2)
-}
-
 pub fn max_input_of(s: State) -> Option<usize>
     ensures { result ≡ max_input_of s }
 {
@@ -127,95 +111,4 @@ pub fn steps_hold(s: State) -> bool
     ensures { result ≡ steps_hold s }
 {
     steps::is_step(s.now, s.current) & steps::is_step(s.then, s.target)
-}
-
-// `most`, here and below, is the record's maximum input: a caller works it out once for all that it asks.
-// Only our own crates call the functions that take it.
-pub fn maxima_hold(s: State, most: Option<usize>) -> bool
-    requires { most ≡ max_input_of s }
-    ensures { result ≡ maxima_hold s }
-{
-    most.is_some() & max_output_of(s).is_some()
-}
-
-fn sizes_hold(s: State, most: Option<usize>) -> bool
-    requires { (kind_holds s.kind ≡ true) × (most ≡ max_input_of s) }
-    ensures { result ≡ sizes_hold s }
-{
-    (input_of(s) == Some(s.input))
-        & (output_of(s) == Some(s.output))
-        & sizes::size_holds(most, s.input)
-        & sizes::size_holds(most, s.fill)
-}
-
-// The test of every call on a record: its kind, refusal 11, and StateRecord, refusal 10. Only our own crates
-// call this form.
-pub fn is_state_of(s: State, most: Option<usize>) -> bool
-    requires { most ≡ max_input_of s }
-    ensures { result ≡ is_state s }
-{
-    let kind = s.kind;
-    if !kinds::kind_holds(kind) {
-        return false;
-    }
-    counts_hold(s)
-        & ratios_hold(s)
-        & steps_hold(s)
-        & maxima_hold(s, most)
-        & sizes_hold(s, most)
-        & bounds::is_index(s.index)
-}
-
-pub fn is_state(s: State) -> bool
-    ensures { result ≡ is_state s }
-{
-    is_state_of(s, max_input_of(s))
-}
-
-// What a record that fails the test is refused with: 11 before 10.
-pub fn fault_of(s: State) -> Refusal
-    ensures { result ≡ fault_of s }
-{
-    let kind = s.kind;
-    if kinds::kind_holds(kind) {
-        return Refusal::StateRecord;
-    }
-    Refusal::Argument
-}
-
-// The first rungs of every call on a record: refusals 11 and 10.
-pub fn check_of(s: State, most: Option<usize>) -> Result<(), Refusal>
-    requires { most ≡ max_input_of s }
-    ensures { said_result result ≡ checked s (given tt) }
-{
-    if !is_state_of(s, most) {
-        return Err(fault_of(s));
-    }
-    Ok(())
-}
-
-pub fn check(s: State) -> Result<(), Refusal>
-    ensures { said_result result ≡ checked s (given tt) }
-{
-    check_of(s, max_input_of(s))
-}
-
-// The one end of every call: sizes, refusal 6, the record put together.
-pub fn update_lengths_of(s: State, most: Option<usize>) -> Result<State, Refusal>
-    requires { (kind_holds s.kind ≡ true) × (most ≡ max_input_of s) }
-    ensures { said_result result ≡ update_lengths s }
-{
-    let input = input_of(s).ok_or(Refusal::SizeTooLarge)?;
-    let output = output_of(s).ok_or(Refusal::SizeTooLarge)?;
-    if !sizes::size_holds(most, input) {
-        return Err(Refusal::SizeTooLarge);
-    }
-    Ok(State { input, output, ..s })
-}
-
-pub fn update_lengths(s: State) -> Result<State, Refusal>
-    requires { kind_holds s.kind ≡ true }
-    ensures { said_result result ≡ update_lengths s }
-{
-    update_lengths_of(s, max_input_of(s))
 }

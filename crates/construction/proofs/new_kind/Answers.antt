@@ -44,8 +44,8 @@ returns-then-not-is_channels c = pass _ _ _ _ _ (sym c.kind_holds.ensures ∙ c.
     pass _ _ _ _ _ (sym c.is_ratio.ensures ∙ c.if-not-is_ratio.false) (
     stop _ _ _ _ (sym c.is_channels.ensures ∙ c.if-not-is_channels.true))))))
 
-pub first_lengths-requires : goal.first_lengths-requires
-first_lengths-requires c = rw c.fresh_state.ensures (sym c.kind_holds.ensures ∙ c.if-not-kind_holds.false)
+pub of-requires : goal.of-requires
+of-requires c = rw c.fresh_state-fresh.ensures (sym c.kind_holds.ensures ∙ c.if-not-kind_holds.false)
 
 pub returns : goal.returns
 unfolding construct
@@ -56,4 +56,4 @@ returns c = let a = c.args in
     pass _ _ _ _ _ (le-leb _ _ c.if-chunk-lt1.false) (
     pass _ _ _ _ _ (sym c.is_ratio.ensures ∙ c.if-not-is_ratio.false) (
     pass _ _ _ _ _ (sym c.is_channels.ensures ∙ c.if-not-is_channels.false) (
-    c.first_lengths.ensures ∙ ap first_lengths {y = fresh_state a.r a.m a.kind a.chunk a.channels a.fixed} c.fresh_state.ensures))))))
+    c.first_lengths.ensures ∙ ap first_lengths {y = fresh_state a.r a.m a.kind a.chunk a.channels a.fixed} (c.of.ensures ∙ c.fresh_state-fresh.ensures)))))))

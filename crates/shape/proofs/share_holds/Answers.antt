@@ -3,7 +3,7 @@ use Rattle.state.proofs.Valid.{valid}
 use Rattle.shape.proofs.share_holds.Goals as goal
 
 pub nonzero_rem-result : goal.nonzero_rem-result
-nonzero_rem-result c = (valid _ c.requires).channels_some
+nonzero_rem-result c = (valid _ c.args.tested.passes).channels_some
 
 pub nonzero_div-result : goal.nonzero_div-result
-nonzero_div-result c = (valid _ c.requires).channels_some
+nonzero_div-result c = (valid _ c.args.tested.passes).channels_some

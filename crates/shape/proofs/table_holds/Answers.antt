@@ -5,7 +5,7 @@ use Rattle.state.proofs.Checked.{kind_of}
 use Rattle.shape.proofs.table_holds.Goals as goal
 
 pub table_length-requires : goal.table_length-requires
-table_length-requires c = kind_of _ c.requires
+table_length-requires c = kind_of _ c.args.tested.passes
 
 pub returns : goal.returns
 returns c = ap (eqb c.args.table) c.table_length.ensures
