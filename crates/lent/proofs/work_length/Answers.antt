@@ -1,4 +1,5 @@
 -- `lent::work_length` meets its contract: a working area is small. Assumes nothing.
+use Rattle.std.specs.Prelude.{is_ok}
 use mathlib.Core.Path.{ap, sym, ◌∙◌}
 use native.Mathlib.Omega.{arith}
 use Rattle.state.proofs.Checked.{check_ok, check_says}
