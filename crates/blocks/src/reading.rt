@@ -1,15 +1,14 @@
 // Samples of a file, read in pieces. Only this crate calls these functions.
-ghost use Rattle.std.specs.Prelude.{◌&&◌, not, ◌≡◌, ◌*◌, ◌<◌, ◌≤◌, ltb, length};
+ghost use Rattle.std.specs.Prelude.{◌≡◌, ◌*◌, ◌<◌, ◌≤◌, length};
 ghost use Rattle.blocks.specs.Blocks.{PieceRead, PiecesRead};
 
-use samples::{least, samples_in, spread};
+use samples::{samples_in, spread};
 use system::{Fd, System};
 
-// So many bytes have been read. `open` says that there may be more, `failed` that a read failed.
+// So many bytes have been read, and whether a read failed behind them.
 #[derive(Clone, Copy)]
 struct Filled {
     count: usize,
-    open: bool,
     failed: bool,
 }
 
@@ -23,46 +22,26 @@ pub struct Piece {
     pub failed: bool,
 }
 
-// One read more, up to `want` bytes in all.
-fn read_more(sys: &mut System, fd: Fd, bytes: &mut [u8], f: Filled, want: usize) -> Filled
-    requires { (f.count ≤ want) × (want ≤ length bytes.old) }
-    ensures { result.count ≤ want }
-{
-    let at = f.count;
-    match sys.read(fd, &mut bytes[at..want]) {
-        Ok(n) => Filled {
-            count: at + n,
-            open: (n > 0) & (at + n < want),
-            failed: false,
-        },
-        Err(_) => Filled {
-            count: at,
-            open: false,
-            failed: true,
-        },
-    }
-}
-
-fn is_open(f: Filled) -> bool {
-    f.open
-}
-
 // Reads `want` bytes, or fewer where the input ends or a read fails.
 fn fill(sys: &mut System, fd: Fd, bytes: &mut [u8], want: usize) -> Filled
     requires { want ≤ length bytes.old }
     ensures { result.count ≤ want }
 {
-    let mut f = Filled {
-        count: 0,
-        open: true,
-        failed: false,
-    };
-    let mut turns = u64::MAX;
-    while turns > 0 && is_open(f) {
-        f = read_more(sys, fd, bytes, f, want);
-        turns -= 1;
+    let mut count = 0;
+    while count < want {
+        match sys.read(fd, &mut bytes[count..want]) {
+            Ok(0) => break,
+            Ok(n) => count += n,
+            Err(_) => return Filled {
+                count,
+                failed: true,
+            },
+        }
     }
-    f
+    Filled {
+        count,
+        failed: false,
+    }
 }
 
 // Behind `done` samples as many more as the buffer holds.
@@ -79,7 +58,7 @@ fn read_piece(
     requires { (0 < channels) × (most ≡ channels * share) × (most ≤ 1048576) × (most ≤ length area.old) × (done ≤ most) }
     ensures { PieceRead (length bytes.old) channels share most done area.old area.new result.samples result.rest result.ended }
 {
-    let want = least(bytes.len() / 8, most - done);
+    let want = (bytes.len() / 8).min(most - done);
     let filled = fill(sys, fd, bytes, 8 * want);
     let count = filled.count;
     let n = count / 8;
@@ -90,12 +69,6 @@ fn read_piece(
         ended: count < 8 * want,
         failed: filled.failed,
     }
-}
-
-fn wants_more(p: Piece, most: usize) -> bool
-    ensures { result ≡ (not p.ended && ltb p.samples most) }
-{
-    !p.ended & (p.samples < most)
 }
 
 // The samples behind `done` of an area of `share` frames, in pieces: none where the input is over. Each
@@ -120,10 +93,8 @@ pub fn read_pieces(
         ended: over,
         failed: false,
     };
-    let mut turns = most;
-    while turns > 0 && wants_more(p, most) {
+    while !p.ended & (p.samples < most) {
         p = read_piece(sys, fd, bytes, area, channels, share, most, p.samples);
-        turns -= 1;
     }
     p
 }

@@ -5,7 +5,7 @@ ghost use Rattle.samples.specs.Counts.{taken, up_to};
 ghost use Rattle.written.specs.Pieces.{Written};
 
 use printer::front_of;
-use samples::{gather, least, samples_in, takes};
+use samples::{gather, samples_in, takes};
 use system::{Fd, System};
 
 // What was written: the samples from number `first` up to `last`, and whether all went well.
@@ -33,7 +33,7 @@ fn write_piece(
     ensures bytes_after { bytes.new ≡ gathered_to channels share w.last output.now bytes.old (result.last - w.last) }
 {
     let done = w.last;
-    let want = least(bytes.len() / 8, most - done);
+    let want = (bytes.len() / 8).min(most - done);
     gather(output, channels, share, done, bytes, want);
     let n = front_of(bytes, 8 * want);
     Writing {
@@ -41,12 +41,6 @@ fn write_piece(
         last: done + want,
         good: sys.write_all(fd, &bytes[..n]),
     }
-}
-
-fn has_more(w: Writing, most: usize) -> bool
-    ensures { result ≡ (w.good && ltb w.last most) }
-{
-    w.good & (w.last < most)
 }
 
 // All of them from `first` up to `most`, or as many as could be written.
@@ -68,10 +62,8 @@ fn write_pieces(
         last: first,
         good: true,
     };
-    let mut turns = most;
-    while turns > 0 && has_more(w, most) {
+    while w.good & (w.last < most) {
         w = write_piece(sys, fd, bytes, output, channels, share, most, w);
-        turns -= 1;
     }
     w
 }

@@ -1,11 +1,9 @@
--- `blocks::reading::fill` meets its contract: its turns are counted down. Assumes nothing.
-use mathlib.Core.Path.{◌≡◌}
-use Prim.Native.Nat.{◌≤◌}
-use lib.ListN.{length}
+-- `blocks::reading::fill` meets its contract: each turn reads a byte or more, or is the last. Assumes nothing.
+use Rattle.std.proofs.Common.{◌-◌, ◌≤◌}
 use Rattle.blocks.proofs.reading.fill.Given as goal
 
-abbrev pub invariant-loop-turns : goal.invariant-loop-turns
-invariant-loop-turns l = (length l.bytes ≡ length l.initial.bytes) × (l.f.count ≤ l.want)
+abbrev pub invariant-loop-count : goal.invariant-loop-count
+invariant-loop-count l = l.count ≤ l.want
 
-abbrev pub decreases-loop-turns : goal.decreases-loop-turns
-decreases-loop-turns l = l.turns
+abbrev pub decreases-loop-count : goal.decreases-loop-count
+decreases-loop-count l = l.want - l.count

@@ -1,16 +1,16 @@
--- `blocks::reading::read_pieces` meets its contract: each turn that is left reads a sample or more, or finds the end. Assumes nothing.
-use Rattle.blocks.proofs.Pieces.{reads_none, reads_next, reads_all, reads_over}
-use native.Mathlib.Omega.{arith}
+-- `blocks::reading::read_pieces` meets its contract: each turn reads a sample or more, or finds the end. Assumes nothing.
+use Rattle.std.proofs.Common.{arith}
+use Rattle.blocks.proofs.Pieces.{reads_none, reads_next, reads_less, reads_over}
 use Rattle.blocks.proofs.reading.read_pieces.Goals as goal
 
-pub loop-turns-init : goal.loop-turns-init
-loop-turns-init c = (omega arith, omega arith, reads_none _ _ _ _ _ _ (omega arith))
+pub loop-p-init : goal.loop-p-init
+loop-p-init c = reads_none _ _ _ _ _ _ (omega arith)
 
-pub loop-turns-preserved : goal.loop-turns-preserved
-loop-turns-preserved c = (omega arith, omega arith, reads_next _ _ _ _ _ _ _ _ _ _ _ c.loop-turns.invariant.2 _ _ _ _ _ _ c.wants_more.ensures c.if-wants_more.true (omega arith) c.read_piece-p.ensures)
+pub loop-p-preserved : goal.loop-p-preserved
+loop-p-preserved c = reads_next _ _ _ _ _ _ _ _ _ _ c.loop-p.invariant _ _ _ _ _ c.loop-p-test.true (omega arith) c.read_piece-p.ensures
 
-pub returns-else-wants_more : goal.returns-else-wants_more
-returns-else-wants_more c = reads_over _ _ _ _ _ _ _ _ _ _ _ c.loop-turns.invariant.2 _ c.wants_more.ensures c.if-wants_more.false
+pub loop-p-smaller : goal.loop-p-smaller
+loop-p-smaller c = reads_less _ _ _ _ _ _ _ _ _ _ c.loop-p.invariant _ _ _ _ _ c.loop-p-test.true (omega arith) c.read_piece-p.ensures
 
-pub returns-after-loop-turns : goal.returns-after-loop-turns
-returns-after-loop-turns c = reads_all _ _ _ _ _ _ _ _ _ _ _ c.loop-turns.invariant.2 (omega arith)
+pub returns : goal.returns
+returns c = reads_over _ _ _ _ _ _ _ _ _ _ c.loop-p.invariant c.loop-p-test.false

@@ -1,11 +1,10 @@
--- `blocks::reading::read_pieces` meets its contract: each turn that is left reads a sample or more, or finds the end. Assumes nothing.
-use mathlib.Core.Path.{◌≡◌}
-use lib.ListN.{length}
+-- `blocks::reading::read_pieces` meets its contract: each turn reads a sample or more, or finds the end. Assumes nothing.
+use Rattle.std.proofs.Common.{◌+◌, ◌-◌, cond}
 use Rattle.blocks.proofs.Pieces.{Reads}
 use Rattle.blocks.proofs.reading.read_pieces.Given as goal
 
-abbrev pub invariant-loop-turns : goal.invariant-loop-turns
-invariant-loop-turns l = (length l.bytes ≡ length l.initial.bytes) × (length l.area ≡ length l.initial.area) × Reads l.channels l.share l.most l.done l.over l.initial.area l.area l.p.samples l.p.rest l.p.ended l.turns
+abbrev pub invariant-loop-p : goal.invariant-loop-p
+invariant-loop-p l = Reads l.channels l.share l.most l.done l.over l.initial.area l.area l.p.samples l.p.rest l.p.ended
 
-abbrev pub decreases-loop-turns : goal.decreases-loop-turns
-decreases-loop-turns l = l.turns
+abbrev pub decreases-loop-p : goal.decreases-loop-p
+decreases-loop-p l = l.most - l.p.samples + cond l.p.ended 0 1
