@@ -38,10 +38,8 @@ fn scale_step(s: Scaled) -> Scaled {
 // No double is further than 324 powers of ten from 1.
 fn scale(x: f64) -> Scaled {
     let mut s = Scaled { x, e: 400 };
-    let mut left: u64 = 325;
-    while left > 0 {
+    for i in 0..325 {
         s = scale_step(s);
-        left -= 1;
     }
     s
 }
