@@ -1,4 +1,6 @@
 // The line and the log along the calls on the one record. The log stands in lent bytes.
+ghost use Rattle.std.specs.Prelude.{◌≤◌};
+
 use crate::texts::put_line as put_figures;
 use big::Big;
 use lines::{End, Line, add_block, start_line};
@@ -30,47 +32,26 @@ fn is_full(v: Live) -> bool {
     v[2] == 1
 }
 
-fn limb(n: u64) -> u32 {
-    (n % 4294967296) as u32
+// The number whose limbs begin at a place of the row.
+fn big_at(v: Live, at: usize) -> Big
+    requires { at ≤ 22 }
+{
+    let mut limbs = [0; 8];
+    for i in 0..8 {
+        limbs[i] = (v[at + i] % 4294967296) as u32;
+    }
+    Big { limbs }
 }
 
-fn exact_in(v: Live) -> Big {
-    Big {
-        l0: limb(v[6]),
-        l1: limb(v[7]),
-        l2: limb(v[8]),
-        l3: limb(v[9]),
-        l4: limb(v[10]),
-        l5: limb(v[11]),
-        l6: limb(v[12]),
-        l7: limb(v[13]),
+// The row with a number's limbs from a place on.
+fn with_big(before: Live, at: usize, b: Big) -> Live
+    requires { at ≤ 22 }
+{
+    let mut v = before;
+    for i in 0..8 {
+        v[at + i] = u64::from(b.limbs[i]);
     }
-}
-
-fn stored_in(v: Live) -> Big {
-    Big {
-        l0: limb(v[14]),
-        l1: limb(v[15]),
-        l2: limb(v[16]),
-        l3: limb(v[17]),
-        l4: limb(v[18]),
-        l5: limb(v[19]),
-        l6: limb(v[20]),
-        l7: limb(v[21]),
-    }
-}
-
-fn most_in(v: Live) -> Big {
-    Big {
-        l0: limb(v[22]),
-        l1: limb(v[23]),
-        l2: limb(v[24]),
-        l3: limb(v[25]),
-        l4: limb(v[26]),
-        l5: limb(v[27]),
-        l6: limb(v[28]),
-        l7: limb(v[29]),
-    }
+    v
 }
 
 // The line of the row.
@@ -79,48 +60,21 @@ fn line_in(v: Live) -> Line {
         frames: v[3],
         blocks: v[4],
         inputs: v[5],
-        exactly: exact_in(v),
-        stored: stored_in(v),
-        most: most_in(v),
+        exactly: big_at(v, 6),
+        stored: big_at(v, 14),
+        most: big_at(v, 22),
     }
 }
 
 fn with_line(before: Live, l: Line) -> Live {
-    let a = l.exactly;
-    let b = l.stored;
-    let c = l.most;
-    [
-        1,
-        before[1],
-        before[2],
-        l.frames,
-        l.blocks,
-        l.inputs,
-        a.l0 as u64,
-        a.l1 as u64,
-        a.l2 as u64,
-        a.l3 as u64,
-        a.l4 as u64,
-        a.l5 as u64,
-        a.l6 as u64,
-        a.l7 as u64,
-        b.l0 as u64,
-        b.l1 as u64,
-        b.l2 as u64,
-        b.l3 as u64,
-        b.l4 as u64,
-        b.l5 as u64,
-        b.l6 as u64,
-        b.l7 as u64,
-        c.l0 as u64,
-        c.l1 as u64,
-        c.l2 as u64,
-        c.l3 as u64,
-        c.l4 as u64,
-        c.l5 as u64,
-        c.l6 as u64,
-        c.l7 as u64,
-    ]
+    let mut v = before;
+    v[0] = 1;
+    v[3] = l.frames;
+    v[4] = l.blocks;
+    v[5] = l.inputs;
+    let exact = with_big(v, 6, l.exactly);
+    let stored = with_big(exact, 14, l.stored);
+    with_big(stored, 22, l.most)
 }
 
 // A line that goes on, or none any more.
