@@ -1,7 +1,7 @@
 // What becomes of an accepted block: its frames are written, then its line in the log and its record in the
 // pass log.
 use crate::kept::kept_of;
-use crate::pass::{Pass, finished, not_recorded, stop_told, stopped};
+use crate::pass::{FirstFrame, Pass, not_recorded, stop_told};
 use crate::progress::progressed;
 use blocks::Reading;
 use cut::KeptFrames;
@@ -27,7 +27,7 @@ fn half_written(sys: &mut System, p: Pass, files: Files) -> Pass {
 
 fn not_logged(sys: &mut System, p: Pass) -> Pass {
     sys.fail(b"resample: writing the log");
-    stopped(p)
+    p.stopped()
 }
 
 // The line of a block: s is the record before it, p the pass with it.
@@ -101,10 +101,11 @@ fn counted(p: Pass, s: State, index: f64, frames: usize, k: KeptFrames) -> Pass 
     let mut q = p;
     q.counts = tally::counted(counts, block);
     q.line = lined(p.line, s, index);
-    if !p.started & (k.from < k.to) {
-        q.started = true;
-        q.first_used = counts.used;
-        q.first_index = k.index;
+    if p.first.is_none() && k.from < k.to {
+        q.first = Some(FirstFrame {
+            used: counts.used,
+            index: k.index,
+        });
     }
     q
 }
@@ -131,7 +132,7 @@ pub fn accepted(
     output: &[f64],
 ) -> Pass {
     let c = p.counts;
-    let total = tally::plus(c.given, r.frames as u64);
+    let total = c.given.saturating_add(r.frames as u64);
     let k = kept_of(s, raw, c.used, p.ended, total);
     let written = match files.output {
         Some(fd) => write_frames(sys, fd, output, s.channels, s.output, k.from, k.to),
@@ -143,11 +144,11 @@ pub fn accepted(
     let n = counted(p, s, index, r.frames, k);
     let l = logged(sys, n, files, c.blocks, s, index);
     let q = recorded(sys, l, files, c.blocks, s, index);
-    if !q.going {
+    if !q.is_going() {
         return q;
     }
     if is_last(raw, s, r, p.ended, k) {
-        return finished(q);
+        return q.finished();
     }
     progressed(sys, q, files, s.channels)
 }

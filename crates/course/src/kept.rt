@@ -22,13 +22,7 @@ fn whole_block(s: State) -> KeptFrames {
 fn ahead(kind: Kind) -> u64 {
     match kind {
         Kind::Polynomial(_) => 0,
-        Kind::Sinc(points, _, _) => {
-            if points >= 2 {
-                (points / 2 - 1) as u64
-            } else {
-                0
-            }
-        }
+        Kind::Sinc(points, _, _) => (points / 2).saturating_sub(1) as u64,
     }
 }
 
@@ -37,6 +31,5 @@ pub fn kept_of(s: State, raw: bool, used: u64, ended: bool, total: u64) -> KeptF
     if raw {
         return whole_block(s);
     }
-    let kind = s.kind;
-    cut::kept(s, tally::plus(used, ahead(kind)), ended, total)
+    cut::kept(s, used.saturating_add(ahead(s.kind)), ended, total)
 }

@@ -13,7 +13,7 @@ mod report;
 
 pub use block::accepted;
 pub use changes::{before_block, next_line, no_plan};
-pub use pass::{Pass, Plan, Run, finished, is_going, refused, run_of, stop_told, stopped, tell};
+pub use pass::{Due, FirstFrame, Line, Pass, Plan, Run, Setting, Stage, refused, stop_told, tell};
 pub use plan_file::plan_holds;
 pub use progress::second_now;
 pub use report::{ended_well, write_head};

@@ -7,20 +7,54 @@ use state::State;
 use system::{Fd, System};
 use tally::Counts;
 
-// The next line of the plan: 1 sets the ratio, 2 ramps to it, 3 sets the mask, 0 is no line and 4 one that
-// could not be read. `reached` is one more than the block of the last line that was followed.
+// What is set before a block.
+#[derive(Clone, Copy)]
+pub enum Setting {
+    Ratio(f64),
+    Ramp(f64),
+    Mask(u64),
+}
+
+// A line of the plan: what is set, and before which block.
+#[derive(Clone, Copy)]
+pub struct Due {
+    pub block: u64,
+    pub setting: Setting,
+}
+
+// The next line of the plan: there is none, or it could not be read.
+#[derive(Clone, Copy)]
+pub enum Line {
+    Over,
+    Change(Due),
+    Bad,
+}
+
+// `reached` is one more than the block of the last line that was followed.
 #[derive(Clone, Copy)]
 pub struct Plan {
-    pub kind: u64,
-    pub block: u64,
-    pub value: u64,
+    pub line: Line,
     pub reached: u64,
     pub cursor: Cursor,
 }
 
-// `held` is a frame of the input that was read ahead; `ended` says that none is behind it. The first frame
-// written stands at `first_used` input frames and the index `first_index`. `going` is false once the pass is
-// to stop, `whole` says that it is at its end, and `good` that nothing is wrong with it.
+// Where the first frame written stands: the input frames used before its block, and the index.
+#[derive(Clone, Copy)]
+pub struct FirstFrame {
+    pub used: u64,
+    pub index: f64,
+}
+
+// Whether the pass goes on, came to its end, or stopped before that.
+#[derive(Clone, Copy, PartialEq, Eq)]
+pub enum Stage {
+    Going,
+    Finished,
+    Stopped,
+}
+
+// `held` is a frame of the input that was read ahead; `ended` says that none is behind it. `good` says that
+// nothing is wrong with the pass.
 #[derive(Clone, Copy)]
 pub struct Pass {
     pub counts: Counts,
@@ -28,12 +62,9 @@ pub struct Pass {
     pub mask: u64,
     pub held: bool,
     pub ended: bool,
-    pub started: bool,
-    pub first_used: u64,
-    pub first_index: f64,
+    pub first: Option<FirstFrame>,
     pub second: Option<i64>,
-    pub going: bool,
-    pub whole: bool,
+    pub stage: Stage,
     pub good: bool,
     pub plan: Plan,
 }
@@ -45,29 +76,27 @@ pub struct Run {
     pub pass: Pass,
 }
 
-pub fn run_of(state: State, pass: Pass) -> Run {
-    Run { state, pass }
-}
+impl Pass {
+    pub fn is_going(&self) -> bool {
+        self.stage == Stage::Going
+    }
 
-// Stopped before its end.
-pub fn stopped(p: Pass) -> Pass {
-    let mut q = p;
-    q.going = false;
-    q.good = false;
-    q
-}
+    // Stopped before its end.
+    pub fn stopped(self) -> Pass {
+        Pass {
+            stage: Stage::Stopped,
+            good: false,
+            ..self
+        }
+    }
 
-// Stopped at its end.
-pub fn finished(p: Pass) -> Pass {
-    let mut q = p;
-    q.going = false;
-    q.whole = true;
-    q
-}
-
-pub fn is_going(run: Run) -> bool {
-    let p = run.pass;
-    p.going
+    // Stopped at its end.
+    pub fn finished(self) -> Pass {
+        Pass {
+            stage: Stage::Finished,
+            ..self
+        }
+    }
 }
 
 // A line for the operator and, where that is a file, for the log. Whether the log took it.
@@ -98,20 +127,19 @@ fn log_carried(sys: &mut System, log: Fd, carried: Carried) {
 
 // A refusal stops the pass: the operator is told its name and what to do, the log its number and floats.
 pub fn refused(sys: &mut System, p: Pass, files: Files, form: &[u8], r: Refusal) -> Pass {
-    let counts = p.counts;
     say_start(sys);
     say_refused(sys, r);
-    tell(sys, files, form, &[counts.blocks, error::number(r)]);
+    tell(sys, files, form, &[p.counts.blocks, error::number(r)]);
     if files.log_file {
         log_carried(sys, files.log, error::values(r));
     }
-    stopped(p)
+    p.stopped()
 }
 
 // A line that stops the pass.
 pub fn stop_told(sys: &mut System, p: Pass, files: Files, form: &[u8], numbers: &[u64]) -> Pass {
     tell(sys, files, form, numbers);
-    stopped(p)
+    p.stopped()
 }
 
 // A record of the block, or of a setting before it, could not be written to the pass log.

@@ -3,50 +3,43 @@ use crate::pass::Pass;
 use options::{Files, say_start};
 use system::System;
 
-// The frames of so many bytes, 0 where there are too many to count in percent.
-fn frames_in(bytes: u64, channels: u64) -> u64 {
-    if channels == 0 {
-        return 0;
+// The whole frames of so many bytes, where they are few enough to count in percent.
+fn frames_in(bytes: u64, channels: usize) -> Option<u64> {
+    if channels == 0 || channels > 16 || bytes > 1152921504606846976 {
+        return None;
     }
-    if channels > 16 {
-        return 0;
-    }
-    if bytes > 1152921504606846976 {
-        return 0;
-    }
-    bytes / (8 * channels)
+    Some(bytes / (8 * channels as u64))
 }
 
-// How much of the input was given, in percent; 101 where its size is not known.
-fn percent(given: u64, frames: u64) -> u64 {
-    if frames == 0 {
-        return 101;
+// How much of the input was given, in percent, where its size is known.
+fn percent(given: u64, frames: u64) -> Option<u64> {
+    if frames == 0 || frames > 1152921504606846976 / 8 || given > frames {
+        return None;
     }
-    if frames > 1152921504606846976 / 8 {
-        return 101;
-    }
-    if given > frames {
-        return 101;
-    }
-    100 * given / frames
+    Some(100 * given / frames)
 }
 
 fn say_progress(sys: &mut System, p: Pass, files: Files, channels: usize) {
     let c = p.counts;
-    let done = percent(c.given, frames_in(files.input_bytes, channels as u64));
+    let done = match frames_in(files.input_bytes, channels) {
+        Some(frames) => percent(c.given, frames),
+        None => None,
+    };
     say_start(sys);
-    if done > 100 {
-        let numbers = [c.given, c.written];
-        forms::write_form(sys, system::ERROR, b"# frames in, # frames out\n", &numbers);
-        return;
-    }
-    let numbers = [done, c.written];
-    forms::write_form(
-        sys,
-        system::ERROR,
-        b"#% of the input, # frames out\n",
-        &numbers,
-    );
+    match done {
+        Some(done) => forms::write_form(
+            sys,
+            system::ERROR,
+            b"#% of the input, # frames out\n",
+            &[done, c.written],
+        ),
+        None => forms::write_form(
+            sys,
+            system::ERROR,
+            b"# frames in, # frames out\n",
+            &[c.given, c.written],
+        ),
+    };
 }
 
 // The clock's second.

@@ -1,8 +1,7 @@
 // Messages on standard error.
-use crate::lists::put_nth;
 use error::Refusal;
 use printer::front_of;
-use system::{Fd, System};
+use system::System;
 
 pub fn say(sys: &mut System, text: &[u8]) {
     sys.write_all(system::ERROR, text);
@@ -25,65 +24,56 @@ pub fn say_start(sys: &mut System) {
     say(sys, b"resample: ");
 }
 
-// The text n of a list; whether it was written.
-pub fn write_nth(sys: &mut System, fd: Fd, list: &[u8], mark: u8, n: usize) -> bool {
-    let mut line = [0u8; 256];
-    let at = put_nth(&mut line, list, mark, n);
-    let k = front_of(&line, at);
-    sys.write_all(fd, &line[..k])
+fn name_of(r: Refusal) -> &'static str {
+    match r {
+        Refusal::InvalidRatio(_) => "InvalidRatio",
+        Refusal::InvalidRelativeRatio(_) => "InvalidRelativeRatio",
+        Refusal::InvalidChunkSize => "InvalidChunkSize",
+        Refusal::RatioOutOfBounds(_, _, _) => "RatioOutOfBounds",
+        Refusal::RatioBeyondPort(_) => "RatioBeyondPort",
+        Refusal::SizeTooLarge => "SizeTooLarge",
+        Refusal::Channels => "Channels",
+        Refusal::BufferShape => "BufferShape",
+        Refusal::Reach => "Reach",
+        Refusal::StateRecord => "StateRecord",
+        Refusal::Argument => "Argument",
+    }
 }
 
-pub fn say_nth(sys: &mut System, list: &[u8], mark: u8, n: usize) {
-    write_nth(sys, system::ERROR, list, mark, n);
-}
-
-// What to do about a refusal, by its number.
-fn say_hint(sys: &mut System, number: usize) {
-    say_nth(
-        sys,
-        b": the ratio must be finite and above 0
-: --m must be finite and 1 or more
-: --chunk must be 1 or more
-: a new ratio must lie between R/m and R*m: a larger --m allows more
-: a ratio must lie between 1/256 and 256
-: a size passes 65536 frames: lower --chunk or --m
-: --channels must be 1 to 16
-: --mask has a bit for a channel that is not there
-: the ratio rose too fast: raise it in smaller steps, or use --fixed out
-: the record is none that a call leaves
-: --sinc takes an even number of points, 8 to 256, and a factor of 3 to 1024; --cutoff takes more than 0 and at most 1
-",
-        10,
-        number,
-    );
-}
-
-fn say_float(sys: &mut System, values: [f64; 3], count: usize, k: usize) {
-    if k < 3 {
-        if k < count {
-            say(sys, b" ");
-            say_value(sys, values[k]);
+// What to do about it.
+fn hint_of(r: Refusal) -> &'static str {
+    match r {
+        Refusal::InvalidRatio(_) => ": the ratio must be finite and above 0",
+        Refusal::InvalidRelativeRatio(_) => ": --m must be finite and 1 or more",
+        Refusal::InvalidChunkSize => ": --chunk must be 1 or more",
+        Refusal::RatioOutOfBounds(_, _, _) => {
+            ": a new ratio must lie between R/m and R*m: a larger --m allows more"
+        }
+        Refusal::RatioBeyondPort(_) => ": a ratio must lie between 1/256 and 256",
+        Refusal::SizeTooLarge => ": a size passes 65536 frames: lower --chunk or --m",
+        Refusal::Channels => ": --channels must be 1 to 16",
+        Refusal::BufferShape => ": --mask has a bit for a channel that is not there",
+        Refusal::Reach => {
+            ": the ratio rose too fast: raise it in smaller steps, or use --fixed out"
+        }
+        Refusal::StateRecord => ": the record is none that a call leaves",
+        Refusal::Argument => {
+            ": --sinc takes an even number of points, 8 to 256, and a factor of 3 to 1024; --cutoff takes more than 0 and at most 1"
         }
     }
 }
 
 // A refusal with its number, its name, the floats that it carries and what to do.
 pub fn say_refused(sys: &mut System, r: Refusal) {
-    let number = error::number(r);
     let carried = error::values(r);
-    let values = carried.values;
     say(sys, b"refused ");
-    say_number(sys, number);
+    say_number(sys, error::number(r));
     say(sys, b" ");
-    say_nth(
-        sys,
-        b"InvalidRatio InvalidRelativeRatio InvalidChunkSize RatioOutOfBounds RatioBeyondPort SizeTooLarge Channels BufferShape Reach StateRecord Argument ",
-        32,
-        number as usize,
-    );
-    say_float(sys, values, carried.count, 0);
-    say_float(sys, values, carried.count, 1);
-    say_float(sys, values, carried.count, 2);
-    say_hint(sys, number as usize);
+    say(sys, name_of(r).as_bytes());
+    for x in carried.values.iter().take(carried.count) {
+        say(sys, b" ");
+        say_value(sys, *x);
+    }
+    say(sys, hint_of(r).as_bytes());
     say(sys, b"\n");
 }

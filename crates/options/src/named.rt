@@ -2,85 +2,64 @@
 use crate::messages::{say, say_start};
 use crate::options::Place;
 use file_facts::Facts;
-use system::{Failed, Fd, System};
+use system::{Fd, System};
 
-#[derive(Clone, Copy)]
-pub enum Act {
-    Read,
-    Write,
-    Remove,
-}
-
-// The file, if it is open; `made` says that it was not there before.
+// A file that is open to be written; `made` says that it was not there before.
 #[derive(Clone, Copy)]
 pub struct Opened {
-    pub fd: Option<Fd>,
+    pub fd: Fd,
     pub made: bool,
 }
 
-// Says so where a file could not be opened.
-fn told(sys: &mut System, fd: Result<Fd, Failed>, name: &[u8]) -> Opened {
-    if fd.is_err() {
-        say_start(sys);
-        say(sys, b"cannot open ");
-        sys.fail(name);
-    }
-    Opened {
-        fd: fd.ok(),
-        made: false,
-    }
+// The name, out of its word, which the buffer takes.
+fn name_at<'a>(sys: &mut System, place: Place, buffer: &'a mut [u8]) -> &'a [u8] {
+    let n = sys.arg(place.at, buffer).unwrap_or(0);
+    &buffer[place.from.min(n)..n]
 }
 
-fn made(sys: &mut System, name: &[u8]) -> Opened {
+fn tell_closed(sys: &mut System, name: &[u8]) {
+    say_start(sys);
+    say(sys, b"cannot open ");
+    sys.fail(name);
+}
+
+// Opens the file for reading. Where it cannot be opened, that is told.
+pub fn open_to_read(sys: &mut System, place: Place) -> Option<Fd> {
+    let mut buffer = io::buffer();
+    let name = name_at(sys, place, &mut buffer);
+    let fd = sys.open_read(name).ok();
+    if fd.is_none() {
+        tell_closed(sys, name);
+    }
+    fd
+}
+
+// Opens the file for writing, empty. Where it cannot be opened, that is told.
+pub fn open_to_write(sys: &mut System, place: Place) -> Option<Opened> {
+    let mut buffer = io::buffer();
+    let name = name_at(sys, place, &mut buffer);
     if let Ok(fd) = sys.create(name) {
-        return Opened {
-            fd: Some(fd),
-            made: true,
-        };
+        return Some(Opened { fd, made: true });
     }
-    let fd = sys.open_overwrite(name);
-    told(sys, fd, name)
+    if let Ok(fd) = sys.open_overwrite(name) {
+        return Some(Opened { fd, made: false });
+    }
+    tell_closed(sys, name);
+    None
 }
 
-fn act_from(sys: &mut System, act: Act, word: &[u8], from: usize) -> Opened {
-    let start = printer::front_of(word, from);
-    let name = &word[start..];
-    match act {
-        Act::Read => {
-            let fd = sys.open_read(name);
-            told(sys, fd, name)
-        }
-        Act::Write => made(sys, name),
-        Act::Remove => {
-            let _ = sys.unlink(name);
-            Opened {
-                fd: None,
-                made: false,
-            }
-        }
-    }
+pub fn remove(sys: &mut System, place: Place) {
+    let mut buffer = io::buffer();
+    let name = name_at(sys, place, &mut buffer);
+    let _ = sys.unlink(name);
 }
 
-// Opens the file for reading or writing, or removes it; `usual` where none is named.
-pub fn act_at(sys: &mut System, act: Act, p: Place, usual: Option<Fd>) -> Opened {
-    if p.at == 0 {
-        return Opened {
-            fd: usual,
-            made: false,
-        };
-    }
-    let mut word = io::buffer();
-    let n = sys.arg(p.at, &mut word).unwrap_or(0);
-    act_from(sys, act, &word[..n], p.from)
-}
-
-// What the system tells of the file, or of the descriptor `usual` where none is named.
-pub fn facts_in(sys: &mut System, p: Place, usual: Option<Fd>) -> Option<Facts> {
-    if p.at == 0 {
+// What the system tells of the file, or of what stands in for it where none is named.
+pub fn facts_in(sys: &mut System, place: Option<Place>, usual: Option<Fd>) -> Option<Facts> {
+    let Some(place) = place else {
         return file_facts::facts_of(sys, usual?);
-    }
-    let mut word = io::buffer();
-    let n = sys.arg(p.at, &mut word).unwrap_or(0);
-    let start = printer::front_of(&word[..n], p.from);
-    file_facts::facts_at(sys, &word[start..n])
+    };
+    let mut buffer = io::buffer();
+    let name = name_at(sys, place, &mut buffer);
+    file_facts::facts_at(sys, name)
 }

@@ -1,124 +1,211 @@
 // What the words ask for.
-use crate::names::{
-    CHANNELS, CHUNK, CUTOFF, DEGREE, FIXED, FORCE, HELP, INPUT, LOG, M, MASK, OUTPUT, PASSLOG,
-    PLAN, RATIO, RAW, SHORT_HELP, SINC, STATUS, TABLE, TONES, VERSION, WINDOW,
-};
-use crate::reading::Reading;
-use crate::slots::{behind, has, slot_or};
+use crate::names::Name;
+use asynchro_fast::PolynomialDegree;
+use asynchro_sinc::SincInterpolationType;
+use kinds::Kind;
+use sizes::FixedAsync;
+use windows::WindowFunction;
 
-// Where a file is named: the word's place, and where the name begins in it. `at` is 0 where none is
-// named, or `-`.
+// Where a file is named: the word's place, and where the name begins in it.
 #[derive(Clone, Copy)]
 pub struct Place {
     pub at: usize,
     pub from: usize,
 }
 
-// `good` is false where a word was bad. `seen` has the bit of each name that was given. The points are those
-// of the degree or of the sinc; blends and windows have their numbers in the lists of names. The rate is the
-// input's, in frames a second, 0 where it was not given.
+// A file, or the standard stream that `-` is.
+#[derive(Clone, Copy)]
+pub enum Target {
+    Standard,
+    File(Place),
+}
+
+// The two of `--rates`: the ratio, and the input's rate in frames a second where it is below 2^64.
+#[derive(Clone, Copy)]
+pub struct Rates {
+    pub ratio: f64,
+    pub input: Option<u64>,
+}
+
+#[derive(Clone, Copy)]
+pub struct Sinc {
+    pub points: usize,
+    pub factor: usize,
+    pub blend: SincInterpolationType,
+}
+
+// The ratio from a block on; the block of a ramp goes to it step by step.
+#[derive(Clone, Copy)]
+pub struct Change {
+    pub block: u64,
+    pub ratio: f64,
+    pub ramp: bool,
+}
+
+// So many changes fit on the command line.
+pub const CHANGES: usize = 16;
+
+// What stands behind each name that was given. The changes stand first among their places.
 #[derive(Clone, Copy)]
 pub struct Options {
-    pub ratio: f64,
-    pub rate: u64,
-    pub m: f64,
-    pub points: u64,
-    pub has_sinc: bool,
-    pub factor: u64,
-    pub blend: u64,
-    pub cutoff: f64,
-    pub has_cutoff: bool,
-    pub window: u64,
-    pub table: Place,
-    pub chunk: usize,
-    pub fixed_out: bool,
-    pub channels: usize,
-    pub mask: u64,
-    pub has_mask: bool,
-    pub tones: u64,
-    pub has_tones: bool,
-    pub input: Place,
-    pub output: Place,
-    pub log: Place,
-    pub passlog: Place,
-    pub plan: Place,
-    pub status: Place,
-    pub changes: usize,
+    pub ratio: Option<f64>,
+    pub rates: Option<Rates>,
+    pub m: Option<f64>,
+    pub degree: Option<PolynomialDegree>,
+    pub sinc: Option<Sinc>,
+    pub cutoff: Option<f64>,
+    pub window: Option<WindowFunction>,
+    pub chunk: Option<usize>,
+    pub fixed: Option<FixedAsync>,
+    pub channels: Option<usize>,
+    pub mask: Option<u64>,
+    pub tones: Option<u64>,
+    pub input: Option<Target>,
+    pub output: Option<Target>,
+    pub log: Option<Target>,
+    pub plan: Option<Place>,
+    pub table: Option<Place>,
+    pub passlog: Option<Place>,
+    pub status: Option<Place>,
+    pub changes: [Option<Change>; CHANGES],
     pub raw: bool,
     pub force: bool,
     pub help: bool,
+    pub short_help: bool,
     pub version: bool,
-    pub good: bool,
-    pub seen: u64,
 }
 
-fn as_count(n: u64) -> usize {
-    n as usize
-}
-
-fn place_of(slots: &[u64], seen: u64, name: usize) -> Place {
-    Place {
-        at: as_count(slot_or(slots, seen, name, 0)),
-        from: as_count(behind(slots, name, 32)),
+// The file that is named.
+pub fn file_of(target: Option<Target>) -> Option<Place> {
+    match target {
+        Some(Target::File(place)) => Some(place),
+        _ => None,
     }
 }
 
-// The points of the degrees, which have the numbers 1 to 5.
-fn points_of(degree: u64) -> u64 {
-    match degree {
-        1 => 1,
-        2 => 2,
-        3 => 4,
-        4 => 6,
-        _ => 8,
+// What was given, and what holds where it was not.
+impl Options {
+    // No word was read.
+    pub fn none() -> Options {
+        Options {
+            ratio: None,
+            rates: None,
+            m: None,
+            degree: None,
+            sinc: None,
+            cutoff: None,
+            window: None,
+            chunk: None,
+            fixed: None,
+            channels: None,
+            mask: None,
+            tones: None,
+            input: None,
+            output: None,
+            log: None,
+            plan: None,
+            table: None,
+            passlog: None,
+            status: None,
+            changes: [None; CHANGES],
+            raw: false,
+            force: false,
+            help: false,
+            short_help: false,
+            version: false,
+        }
     }
-}
 
-// The short name of a window stands 6 places behind its long one.
-fn window_of(n: u64) -> u64 {
-    if n > 6 { n - 6 } else { n }
-}
+    // Whether there is an `--at`, or a `--ramp`.
+    fn has_change(&self, ramp: bool) -> bool {
+        self.changes.iter().flatten().any(|c| c.ramp == ramp)
+    }
 
-// All that was read, and what holds otherwise: m 2, chunk 1024, septic, the window blackman-harris2, fixed
-// out, one channel. The ratio stands in its slot whether --ratio or --rates gave it.
-pub fn options_of(r: Reading, slots: &[u64]) -> Options {
-    let seen = r.seen;
-    Options {
-        ratio: text::of_bits(slot_or(slots, 1 << RATIO, RATIO, 0)),
-        rate: behind(slots, RATIO, 32),
-        m: text::of_bits(slot_or(slots, seen, M, 0x4000_0000_0000_0000)),
-        points: slot_or(
-            slots,
-            seen,
-            SINC,
-            points_of(slot_or(slots, seen, DEGREE, 5)),
-        ),
-        has_sinc: has(seen, SINC),
-        factor: behind(slots, SINC, 32),
-        blend: behind(slots, SINC, 64),
-        cutoff: text::of_bits(slot_or(slots, seen, CUTOFF, 0)),
-        has_cutoff: has(seen, CUTOFF),
-        window: window_of(slot_or(slots, seen, WINDOW, 6)),
-        table: place_of(slots, seen, TABLE),
-        chunk: as_count(slot_or(slots, seen, CHUNK, 1024)),
-        fixed_out: slot_or(slots, seen, FIXED, 2) == 2,
-        channels: as_count(slot_or(slots, seen, CHANNELS, 1)),
-        mask: slot_or(slots, seen, MASK, 1),
-        has_mask: has(seen, MASK),
-        tones: slot_or(slots, seen, TONES, 0),
-        has_tones: has(seen, TONES),
-        input: place_of(slots, seen, INPUT),
-        output: place_of(slots, seen, OUTPUT),
-        log: place_of(slots, seen, LOG),
-        passlog: place_of(slots, seen, PASSLOG),
-        plan: place_of(slots, seen, PLAN),
-        status: place_of(slots, seen, STATUS),
-        changes: r.changes,
-        raw: has(seen, RAW),
-        force: has(seen, FORCE),
-        help: has(seen, HELP) | has(seen, SHORT_HELP),
-        version: has(seen, VERSION),
-        good: r.good,
-        seen,
+    // Whether the name was given.
+    pub fn has(&self, name: Name) -> bool {
+        match name {
+            Name::Ratio => self.ratio.is_some(),
+            Name::M => self.m.is_some(),
+            Name::Cutoff => self.cutoff.is_some(),
+            Name::Chunk => self.chunk.is_some(),
+            Name::Channels => self.channels.is_some(),
+            Name::Mask => self.mask.is_some(),
+            Name::Tones => self.tones.is_some(),
+            Name::Degree => self.degree.is_some(),
+            Name::Fixed => self.fixed.is_some(),
+            Name::Window => self.window.is_some(),
+            Name::Input => self.input.is_some(),
+            Name::Output => self.output.is_some(),
+            Name::Log => self.log.is_some(),
+            Name::Plan => self.plan.is_some(),
+            Name::Table => self.table.is_some(),
+            Name::Passlog => self.passlog.is_some(),
+            Name::Status => self.status.is_some(),
+            Name::Rates => self.rates.is_some(),
+            Name::Sinc => self.sinc.is_some(),
+            Name::At => self.has_change(false),
+            Name::Ramp => self.has_change(true),
+            Name::Raw => self.raw,
+            Name::Force => self.force,
+            Name::Help => self.help,
+            Name::ShortHelp => self.short_help,
+            Name::Version => self.version,
+        }
+    }
+
+    // A change behind those that are there; whether there was a place for it.
+    pub fn add(&mut self, change: Change) -> bool {
+        for place in self.changes.iter_mut() {
+            if place.is_none() {
+                *place = Some(change);
+                return true;
+            }
+        }
+        false
+    }
+
+    // The ratio that --ratio or --rates gave; a pass has one.
+    pub fn ratio(&self) -> f64 {
+        match self.rates {
+            Some(rates) => rates.ratio,
+            None => self.ratio.unwrap_or(0.0),
+        }
+    }
+
+    // The input's rate.
+    pub fn rate(&self) -> Option<u64> {
+        self.rates?.input
+    }
+
+    pub fn m(&self) -> f64 {
+        self.m.unwrap_or(2.0)
+    }
+
+    pub fn degree(&self) -> PolynomialDegree {
+        self.degree.unwrap_or(PolynomialDegree::Septic)
+    }
+
+    // What a pass resamples by.
+    pub fn kind(&self) -> Kind {
+        match self.sinc {
+            Some(sinc) => Kind::Sinc(sinc.points, sinc.factor, sinc.blend),
+            None => Kind::Polynomial(self.degree()),
+        }
+    }
+
+    pub fn window(&self) -> WindowFunction {
+        self.window.unwrap_or(WindowFunction::BlackmanHarris2)
+    }
+
+    pub fn chunk(&self) -> usize {
+        self.chunk.unwrap_or(1024)
+    }
+
+    pub fn fixed(&self) -> FixedAsync {
+        self.fixed.unwrap_or(FixedAsync::Output)
+    }
+
+    pub fn channels(&self) -> usize {
+        self.channels.unwrap_or(1)
     }
 }

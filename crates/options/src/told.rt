@@ -1,68 +1,64 @@
 // The words of the command line, and what they name, for the log.
-use crate::messages::write_nth;
-use crate::names::{BLENDS, STATUS, WINDOWS, number_of};
+use crate::choices::{blend_text, degree_text, window_text};
+use crate::names::Name;
 use crate::options::Place;
-use printer::{front_of, put_byte};
+use asynchro_fast::PolynomialDegree;
+use asynchro_sinc::SincInterpolationType;
 use system::{Fd, System};
+use windows::WindowFunction;
 
-// Whether the next word is left out, how many spaces stand before it, and whether all was written.
+// Whether the next word is left out, whether one stands before it, and whether all was written.
 #[derive(Clone, Copy)]
 struct Telling {
     skip: bool,
-    space: usize,
+    begun: bool,
     good: bool,
 }
 
 // A byte that a line can have: a `?` for a control character.
 fn plain(byte: u8) -> u8 {
-    if (byte < 32) | (byte == 127) {
-        return 63;
-    }
-    byte
+    if byte.is_ascii_control() { b'?' } else { byte }
 }
 
-// Puts the word behind the place `at`; the place behind it.
-fn put_plain(line: &mut [u8], at: usize, word: &[u8]) -> usize {
-    let mut end = at;
-    for k in 0..word.len() {
-        end = put_byte(line, end, plain(word[k]));
+fn write_plain(sys: &mut System, fd: Fd, word: &[u8]) -> bool {
+    let mut line = [0u8; 4096];
+    for (place, byte) in line.iter_mut().zip(word) {
+        *place = plain(*byte);
     }
-    end
+    sys.write_all(fd, &line[..word.len().min(4096)])
 }
 
 // The word, with a space before it where one stands there.
-fn write_word(sys: &mut System, fd: Fd, space: usize, word: &[u8]) -> bool {
-    let mut line = [32u8; 4100];
-    let n = put_plain(&mut line, space, word);
-    let k = front_of(&line, n);
-    sys.write_all(fd, &line[..k])
+fn write_spaced(sys: &mut System, fd: Fd, begun: bool, word: &[u8]) -> bool {
+    if begun && !sys.write_all(fd, b" ") {
+        return false;
+    }
+    write_plain(sys, fd, word)
 }
 
 // A word: --status is left out, with its value.
 fn tell_word(sys: &mut System, fd: Fd, t: Telling, word: &[u8]) -> Telling {
-    let n = word.len();
-    let end = scan::find(word, b'=').unwrap_or(n);
-    if number_of(&word[..end]) == STATUS {
+    let joined = scan::find(word, b'=');
+    let name = match joined {
+        Some(end) => &word[..end],
+        None => word,
+    };
+    if Name::of(name) == Some(Name::Status) {
         return Telling {
-            skip: end == n,
-            space: t.space,
-            good: t.good,
+            skip: joined.is_none(),
+            ..t
         };
     }
     Telling {
         skip: false,
-        space: 1,
-        good: t.good & write_word(sys, fd, t.space, word),
+        begun: true,
+        good: t.good & write_spaced(sys, fd, t.begun, word),
     }
 }
 
 fn tell_next(sys: &mut System, fd: Fd, t: Telling, at: usize) -> Telling {
     if t.skip {
-        return Telling {
-            skip: false,
-            space: t.space,
-            good: t.good,
-        };
+        return Telling { skip: false, ..t };
     }
     let mut word = io::buffer();
     let n = sys.arg(at, &mut word).unwrap_or(0);
@@ -73,7 +69,7 @@ fn tell_next(sys: &mut System, fd: Fd, t: Telling, at: usize) -> Telling {
 pub fn write_words(sys: &mut System, fd: Fd) -> bool {
     let mut t = Telling {
         skip: false,
-        space: 0,
+        begun: false,
         good: true,
     };
     for at in 1..sys.arg_count() {
@@ -82,18 +78,21 @@ pub fn write_words(sys: &mut System, fd: Fd) -> bool {
     t.good
 }
 
-// The names of a blend and of a window, and a file's name; whether each was written.
-pub fn write_blend(sys: &mut System, fd: Fd, n: u64) -> bool {
-    write_nth(sys, fd, &BLENDS, 32, n as usize)
+// The names of a degree, a blend and a window, and a file's name; whether each was written.
+pub fn write_degree(sys: &mut System, fd: Fd, degree: PolynomialDegree) -> bool {
+    sys.write_all(fd, degree_text(degree).as_bytes())
 }
 
-pub fn write_window(sys: &mut System, fd: Fd, n: u64) -> bool {
-    write_nth(sys, fd, &WINDOWS, 32, n as usize)
+pub fn write_blend(sys: &mut System, fd: Fd, blend: SincInterpolationType) -> bool {
+    sys.write_all(fd, blend_text(blend).as_bytes())
 }
 
-pub fn write_file_name(sys: &mut System, fd: Fd, p: Place) -> bool {
+pub fn write_window(sys: &mut System, fd: Fd, window: WindowFunction) -> bool {
+    sys.write_all(fd, window_text(window).as_bytes())
+}
+
+pub fn write_file_name(sys: &mut System, fd: Fd, place: Place) -> bool {
     let mut word = io::buffer();
-    let n = sys.arg(p.at, &mut word).unwrap_or(0);
-    let start = front_of(&word[..n], p.from);
-    write_word(sys, fd, 0, &word[start..n])
+    let n = sys.arg(place.at, &mut word).unwrap_or(0);
+    write_plain(sys, fd, &word[place.from.min(n)..n])
 }

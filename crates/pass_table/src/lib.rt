@@ -2,56 +2,28 @@
 // ends is proved.
 #![tactic(auto)]
 
-use options::{Options, say, say_refused, say_start};
+use options::{Options, Sinc, say, say_refused, say_start};
 use printer::front_of;
-use samples::least;
 use system::{Fd, System};
-use windows::WindowFunction;
-
-// The entries of a table; none where no construction takes its points or factor.
-fn product(points: usize, factor: usize) -> usize {
-    if points > 256 {
-        return 0;
-    }
-    if factor > 1024 {
-        return 0;
-    }
-    points * factor
-}
 
 // How many entries the table has; a polynomial has none.
-pub fn entries_of(o: Options) -> usize {
-    if !o.has_sinc {
-        return 0;
-    }
-    product(o.points as usize, o.factor as usize)
-}
-
-// The windows have the numbers 1 to 6.
-fn window_of(n: u64) -> WindowFunction {
-    match n {
-        1 => WindowFunction::Hann,
-        2 => WindowFunction::Hann2,
-        3 => WindowFunction::Blackman,
-        4 => WindowFunction::Blackman2,
-        5 => WindowFunction::BlackmanHarris,
-        _ => WindowFunction::BlackmanHarris2,
+pub fn entries_of(o: &Options) -> usize {
+    match o.sinc {
+        Some(sinc) => sinc.points.saturating_mul(sinc.factor),
+        None => 0,
     }
 }
 
 // The cutoff that was given, or the one that suits the points and the window.
-fn cutoff_of(o: Options) -> f64 {
-    if o.has_cutoff {
-        return o.cutoff;
-    }
-    match windows::calculate_cutoff(o.points as usize, window_of(o.window)) {
-        Ok(x) => x,
-        Err(_) => 0.0,
+fn cutoff_of(o: &Options, sinc: Sinc) -> f64 {
+    match o.cutoff {
+        Some(cutoff) => cutoff,
+        None => windows::calculate_cutoff(sinc.points, o.window()).unwrap_or(0.0),
     }
 }
 
 // Builds the table; whether that is done. A refusal, and a table that is too large, are told.
-fn is_built(sys: &mut System, o: Options, table: &mut [f64]) -> bool {
+fn is_built(sys: &mut System, o: &Options, sinc: Sinc, table: &mut [f64]) -> bool {
     if table.len() > 65536 {
         say_start(sys);
         say(
@@ -61,10 +33,10 @@ fn is_built(sys: &mut System, o: Options, table: &mut [f64]) -> bool {
         return false;
     }
     match sincs::make_sincs(
-        o.points as usize,
-        o.factor as usize,
-        cutoff_of(o),
-        window_of(o.window),
+        sinc.points,
+        sinc.factor,
+        cutoff_of(o, sinc),
+        o.window(),
         table,
     ) {
         Ok(()) => true,
@@ -89,7 +61,7 @@ struct Got {
 // Reads on behind the entries that are there, as many as a read takes.
 fn read_part(sys: &mut System, fd: Fd, table: &mut [f64], held: &mut [f64], g: Got) -> Got {
     let at = front_of(table, g.entries as usize);
-    let n = least(65536, table.len() - at);
+    let n = (table.len() - at).min(65536);
     let r = blocks::read_frames(sys, fd, &mut table[at..at + n], held, g.more, 1, n);
     Got {
         entries: tally::plus(at as u64, r.frames as u64),
@@ -115,9 +87,9 @@ fn read_all(sys: &mut System, fd: Fd, table: &mut [f64]) -> Got {
     read_part(sys, fd, table, &mut held, third)
 }
 
-fn tell_length(sys: &mut System, o: Options, g: Got, wanted: u64) {
-    let bytes = std::num::wrapping_add_u64(g.entries << 3, g.left);
-    let numbers = [bytes, o.points, o.factor, wanted << 3];
+fn tell_length(sys: &mut System, sinc: Sinc, g: Got, wanted: u64) {
+    let bytes = (g.entries << 3).wrapping_add(g.left);
+    let numbers = [bytes, sinc.points as u64, sinc.factor as u64, wanted << 3];
     say_start(sys);
     if g.more {
         say(sys, b"--table: the file has more than the ");
@@ -133,7 +105,7 @@ fn tell_length(sys: &mut System, o: Options, g: Got, wanted: u64) {
 }
 
 // Reads the table; whether it has the right length, and nothing else is in the file.
-fn is_read(sys: &mut System, o: Options, fd: Fd, table: &mut [f64]) -> bool {
+fn is_read(sys: &mut System, sinc: Sinc, fd: Fd, table: &mut [f64]) -> bool {
     let g = read_all(sys, fd, table);
     let wanted = table.len() as u64;
     if g.failed {
@@ -143,18 +115,18 @@ fn is_read(sys: &mut System, o: Options, fd: Fd, table: &mut [f64]) -> bool {
     if (g.entries == wanted) & (g.left == 0) & !g.more {
         return true;
     }
-    tell_length(sys, o, g, wanted);
+    tell_length(sys, sinc, g, wanted);
     false
 }
 
 // Whether the table stands in the area, from the file or built; a polynomial needs none.
-pub fn is_made(sys: &mut System, o: Options, fd: Option<Fd>, table: &mut [f64]) -> bool {
-    if !o.has_sinc {
+pub fn is_made(sys: &mut System, o: &Options, fd: Option<Fd>, table: &mut [f64]) -> bool {
+    let Some(sinc) = o.sinc else {
         return true;
-    }
+    };
     match fd {
-        Some(fd) => is_read(sys, o, fd, table),
-        None => is_built(sys, o, table),
+        Some(fd) => is_read(sys, sinc, fd, table),
+        None => is_built(sys, o, sinc, table),
     }
 }
 
@@ -168,20 +140,23 @@ fn write_sum(sys: &mut System, log: Fd, table: &[f64]) -> bool {
 }
 
 // The table's line in the log, as the program `table` has it; or its file in the place of cutoff and window.
-pub fn write_line(sys: &mut System, o: Options, log: Fd, table: &[f64]) -> bool {
-    if !o.has_sinc {
+pub fn write_line(sys: &mut System, o: &Options, log: Fd, table: &[f64]) -> bool {
+    let Some(sinc) = o.sinc else {
         return true;
-    }
-    let place = o.table;
-    let numbers = [o.points, o.factor, text::bits_of(cutoff_of(o))];
+    };
+    let numbers = [
+        sinc.points as u64,
+        sinc.factor as u64,
+        text::bits_of(cutoff_of(o, sinc)),
+    ];
     let sizes = forms::write_form(sys, log, b"table points # factor #", &numbers);
-    if place.at > 0 {
+    if let Some(place) = o.table {
         let sum = write_sum(sys, log, table) & forms::write_form(sys, log, b" file ", &[]);
         let name = options::write_file_name(sys, log, place);
         return sizes & sum & name & sys.write_all(log, b"\n");
     }
     let cutoff = forms::write_form(sys, log, b" cutoff $ window ", &numbers[2..]);
-    let window = options::write_window(sys, log, o.window);
+    let window = options::write_window(sys, log, o.window());
     let sum = write_sum(sys, log, table);
     sizes & cutoff & window & sum & sys.write_all(log, b"\n")
 }

@@ -6,7 +6,7 @@ mod setup;
 
 use blocks::Reading;
 use course::Run;
-use options::{Files, Options, say, say_start};
+use options::{Bad, Files, Options, Task, say, say_start};
 use state::State;
 use system::System;
 
@@ -14,9 +14,8 @@ use system::System;
 fn pass_over(
     sys: &mut System,
     first: Run,
-    o: Options,
+    o: &Options,
     files: Files,
-    changes: &[u64],
     table: &[f64],
     held: &mut [f64],
     bytes: &mut [u8],
@@ -29,7 +28,6 @@ fn pass_over(
         first,
         o,
         files,
-        changes,
         table,
         bytes,
         &mut input,
@@ -37,7 +35,7 @@ fn pass_over(
         &mut output,
         &mut work,
     );
-    course::ended_well(sys, end, o, files, changes)
+    course::ended_well(sys, end, o, files)
 }
 
 // Whether the input has a frame, and no mark of another kind of file.
@@ -69,30 +67,24 @@ fn tell_empty(sys: &mut System, left: usize) {
 }
 
 // The pass log, with the record of the construction of s.
-fn recorded(sys: &mut System, s: State, o: Options, files: Files) -> Files {
-    let f = options::open_passlog(sys, o, files);
-    if pass_log::write_construction(sys, f.passlog, s.index) {
-        return f;
+fn recorded(sys: &mut System, s: State, o: &Options, files: Files) -> Option<Files> {
+    let opened = options::open_passlog(sys, o, files)?;
+    if !pass_log::write_construction(sys, opened.passlog, s.index) {
+        sys.fail(b"resample: writing the pass log");
+        return None;
     }
-    sys.fail(b"resample: writing the pass log");
-    options::no_files(false)
+    Some(opened)
 }
 
 // The pass log, the log and its head, then the output, so that no output is emptied for a log that cannot be
 // written.
-fn opened(sys: &mut System, s: State, o: Options, read: Files, table: &[f64]) -> Files {
-    let files = recorded(sys, s, o, read);
-    if !files.good {
-        return files;
-    }
-    let logged = options::open_log(sys, o, files);
-    if !logged.good {
-        return logged;
-    }
+fn opened(sys: &mut System, s: State, o: &Options, inputs: Files, table: &[f64]) -> Option<Files> {
+    let files = recorded(sys, s, o, inputs)?;
+    let logged = options::open_log(sys, o, files)?;
     let head = course::write_head(sys, o, logged, s, setup::mask_of(o));
     if !(head & pass_table::write_line(sys, o, logged.log, table)) {
         sys.fail(b"resample: writing the log");
-        return options::no_files(false);
+        return None;
     }
     options::open_output(sys, o, logged)
 }
@@ -101,42 +93,30 @@ fn opened(sys: &mut System, s: State, o: Options, read: Files, table: &[f64]) ->
 fn begin(
     sys: &mut System,
     s: State,
-    o: Options,
-    read: Files,
+    o: &Options,
+    inputs: Files,
     r: Reading,
-    changes: &[u64],
     table: &[f64],
     held: &mut [f64],
     bytes: &mut [u8],
 ) -> bool {
-    let files = opened(sys, s, o, read, table);
-    if !files.good {
+    let Some(files) = opened(sys, s, o, inputs, table) else {
         return false;
-    }
+    };
     if !r.held {
         tell_empty(sys, r.left);
         return false;
     }
     let p = setup::first_pass(sys, s.index, setup::mask_of(o), files, bytes);
-    pass_over(
-        sys,
-        course::run_of(s, p),
-        o,
-        files,
-        changes,
-        table,
-        held,
-        bytes,
-    )
+    pass_over(sys, Run { state: s, pass: p }, o, files, table, held, bytes)
 }
 
 // The pass of a record. The table is made, and the input's first frame and the plan are looked at, before
 // anything is written.
-fn pass_of(sys: &mut System, s: State, o: Options, changes: &[u64], table: &mut [f64]) -> bool {
-    let files = options::open_inputs(sys, o);
-    if !files.good {
+fn pass_of(sys: &mut System, s: State, o: &Options, table: &mut [f64]) -> bool {
+    let Some(files) = options::open_inputs(sys, o) else {
         return false;
-    }
+    };
     if !pass_table::is_made(sys, o, files.table, table) {
         return false;
     }
@@ -149,11 +129,11 @@ fn pass_of(sys: &mut System, s: State, o: Options, changes: &[u64], table: &mut 
     if !input_holds(sys, r, o.force) {
         return false;
     }
-    begin(sys, s, o, files, r, changes, table, &mut held, &mut bytes)
+    begin(sys, s, o, files, r, table, &mut held, &mut bytes)
 }
 
 // A table has up to 262,144 entries; a polynomial has none.
-fn pass_on(sys: &mut System, o: Options, changes: &[u64]) -> bool {
+fn pass_on(sys: &mut System, o: &Options) -> bool {
     let Ok(s) = setup::made_told(sys, o) else {
         return false;
     };
@@ -162,44 +142,39 @@ fn pass_on(sys: &mut System, o: Options, changes: &[u64]) -> bool {
     }
     let mut area = [0.0; 262144];
     let n = printer::front_of(&area, pass_table::entries_of(o));
-    pass_of(sys, s, o, changes, &mut area[..n])
+    pass_of(sys, s, o, &mut area[..n])
 }
 
-fn tones_on(sys: &mut System, o: Options) -> bool {
-    let inputs = options::open_inputs(sys, o);
-    let files = options::open_output(sys, o, inputs);
-    match files.output {
-        Some(fd) => tones::write_tones(sys, o.tones, fd),
+fn tones_on(sys: &mut System, o: &Options, frames: u64) -> bool {
+    match options::open_tones(sys, o) {
+        Some(fd) => tones::write_tones(sys, frames, fd),
         None => false,
     }
 }
 
-// What the words ask for: help, the version, tones or a pass. Whether it went well.
-fn act(sys: &mut System, o: Options, changes: &[u64]) -> bool {
-    if o.help {
-        return options::help(sys);
+// Does what the words ask for; whether it went well.
+fn act(sys: &mut System, o: &Options, task: Task) -> bool {
+    match task {
+        Task::Help => options::help(sys),
+        Task::Version => options::write_version(sys, system::OUTPUT),
+        Task::Tones(frames) => tones_on(sys, o, frames),
+        Task::Pass => pass_on(sys, o),
     }
-    if o.version {
-        return options::write_version(sys, system::OUTPUT);
-    }
-    if o.has_tones {
-        return tones_on(sys, o);
-    }
-    pass_on(sys, o, changes)
 }
 
-fn status_of(sys: &mut System, o: Options, changes: &[u64]) -> u64 {
-    if !o.good {
-        return 2;
+// The status: 2 where the words are bad, 1 where something went wrong.
+fn status_of(sys: &mut System, o: &Options, task: Result<Task, Bad>) -> u64 {
+    match task {
+        Err(Bad) => 2,
+        Ok(task) => { if act(sys, o, task) { 0 } else { 1 } }
     }
-    if act(sys, o, changes) { 0 } else { 1 }
 }
 
 fn main(rt: HostRuntime) {
     let mut system = System::new(rt);
     let sys = &mut system;
-    let mut changes = [0u64; 48];
-    let o = options::read_words(sys, &mut changes);
-    let status = status_of(sys, o, &changes);
-    options::write_status(sys, o, status);
+    let mut o = Options::none();
+    let task = options::read_words(sys, &mut o);
+    let status = status_of(sys, &o, task);
+    options::write_status(sys, &o, status);
 }

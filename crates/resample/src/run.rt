@@ -1,10 +1,7 @@
 // The pass: block after block, until the first frame past the input or, with --raw, until the input is over.
 use asynchro::Outcome;
 use blocks::{Reading, read_frames};
-use course::{
-    Pass, Run, accepted, before_block, finished, is_going, refused, run_of, stop_told, stopped,
-    tell,
-};
+use course::{Pass, Run, accepted, before_block, refused, stop_told, tell};
 use options::{Files, Options};
 use process::Sizes;
 use state::State;
@@ -12,7 +9,7 @@ use system::System;
 
 fn not_read(sys: &mut System, p: Pass) -> Pass {
     sys.fail(b"resample: reading the input");
-    stopped(p)
+    p.stopped()
 }
 
 fn answered(
@@ -25,16 +22,16 @@ fn answered(
     files: Files,
     output: &[f64],
 ) -> Run {
-    let state = outcome.state;
-    match outcome.answer {
+    let pass = match outcome.answer {
         Err(e) => {
             let form = b"block # was refused with number #\n";
-            run_of(state, refused(sys, p, files, form, e))
+            refused(sys, p, files, form, e)
         }
-        Ok(_) => run_of(
-            state,
-            accepted(sys, p, s, state.index, r, raw, files, output),
-        ),
+        Ok(_) => accepted(sys, p, s, outcome.state.index, r, raw, files, output),
+    };
+    Run {
+        state: outcome.state,
+        pass,
     }
 }
 
@@ -87,11 +84,17 @@ fn block(
 ) -> Run {
     let r = read_frames(sys, files.input, input, held, p.held, s.channels, s.input);
     if r.failed {
-        return run_of(s, not_read(sys, p));
+        return Run {
+            state: s,
+            pass: not_read(sys, p),
+        };
     }
     let q = has_read(sys, p, files, r);
     if raw & q.ended & (r.frames == 0) & (s.input > 0) {
-        return run_of(s, finished(q));
+        return Run {
+            state: s,
+            pass: q.finished(),
+        };
     }
     ran(sys, q, s, r, raw, files, table, input, output, work)
 }
@@ -120,11 +123,14 @@ fn next_block(
 ) -> Run {
     let s = run.state;
     let p = run.pass;
-    if !p.going {
+    if !p.is_going() {
         return run;
     }
     if lent::area_length(s.channels, s.output) > output.len() {
-        return run_of(s, too_large(sys, p, files));
+        return Run {
+            state: s,
+            pass: too_large(sys, p, files),
+        };
     }
     block(sys, p, s, raw, files, table, input, held, output, work)
 }
@@ -132,9 +138,8 @@ fn next_block(
 fn turn(
     sys: &mut System,
     before: Run,
-    o: Options,
+    o: &Options,
     files: Files,
-    changes: &[u64],
     table: &[f64],
     bytes: &mut [u8],
     input: &mut [f64],
@@ -142,17 +147,16 @@ fn turn(
     output: &mut [f64],
     work: &mut [f64],
 ) -> Run {
-    let run = before_block(sys, before, files, o.changes, changes, bytes);
+    let run = before_block(sys, before, files, &o.changes, bytes);
     next_block(sys, run, o.raw, files, table, input, held, output, work)
 }
 
-// Nothing says that the input ends, so the turns are counted down from a number that no pass uses up.
+// Nothing says that the input ends, so a pass has as many turns as can be counted.
 pub fn turns(
     sys: &mut System,
     first: Run,
-    o: Options,
+    o: &Options,
     files: Files,
-    changes: &[u64],
     table: &[f64],
     bytes: &mut [u8],
     input: &mut [f64],
@@ -161,12 +165,11 @@ pub fn turns(
     work: &mut [f64],
 ) -> Pass {
     let mut run = first;
-    let mut left = u64::MAX;
-    while left > 0 && is_going(run) {
-        run = turn(
-            sys, run, o, files, changes, table, bytes, input, held, output, work,
-        );
-        left -= 1;
+    for _ in 0..u64::MAX {
+        if !run.pass.is_going() {
+            return run.pass;
+        }
+        run = turn(sys, run, o, files, table, bytes, input, held, output, work);
     }
     run.pass
 }
