@@ -1,12 +1,11 @@
 -- The leading frames: the loop that counts them, and what is known of each frame. Assumes nothing.
-use Rattle.std.proofs.Common.{◌≡◌, ℕ, zero, suc, ◌+◌, ◌<◌, ◌≤◌, Bool, true, false, not, ◌&&◌, ltb, sym, refl, ap, ◌∙◌, subst, true≢false, zero-add, add-one, arith, ltb-true, lt-ltb}
-use mathlib.Core.Bool.{false≢true, and-eq-true_iff}
+use Rattle.std.proofs.Common.{◌≡◌, ℕ, zero, suc, ◌+◌, ◌<◌, ◌≤◌, Bool, true, false, not, sym, refl, ap, ◌∙◌, subst, true≢false, zero-add, add-one, arith}
+use mathlib.Core.Bool.{false≢true}
 use native.Mathlib.Nat.{le_dest}
 use lib.Ieee.{Float, lt}
 use Rattle.path.specs.declared.Moment.{Moment}
 use Rattle.path.specs.Path.{step_index, path_at}
 use Rattle.path.proofs.Path.{path_next}
-use Rattle.error.proofs.Ladder.{join}
 use Rattle.state.specs.declared.State.{State}
 use Rattle.state.specs.Record.{step_now_of}
 use Rattle.plan.specs.Plan.{increment_of}
@@ -31,37 +30,34 @@ pub record Led (t d i limit : Float) (n : ℕ) (at : Moment) (k : ℕ) : Type 0 
   pub moment : at ≡ path_at t d i (suc k)
   pub left : (m : ℕ) → k + m ≡ n → leading t d i limit 0 n ≡ k + leading t d i limit k m
 
--- the loop's test
-pub more_of : (k n : ℕ) (b : Bool) → (ltb k n && b) ≡ true → (k < n) × (b ≡ true)
-more_of k n b h = let p = (and-eq-true_iff (ltb k n) b).0 h in (ltb-true k n p.0, p.1)
-
-over_of_lem : (k n : ℕ) (b : Bool) → (ltb k n && b) ≡ false → k < n → b ≡ false
-over_of_lem k n true h l = absurd (true≢false (sym (join (lt-ltb k n l) refl) ∙ h))
-over_of_lem k n false h l = refl
-
 module _ (t d i limit : Float) (n : ℕ) where
   pub led_none : (at : Moment) → at ≡ step_index d (record { index = i; step = t }) → Led t d i limit n at 0
   unfolding path_at
   led_none at e = record { moment = e; left = λ m h. ap (leading t d i limit 0) (omega arith) ∙ sym (zero-add (leading t d i limit 0 m)) }
 
-  pub led_next : (at at' : Moment) (k : ℕ) → Led t d i limit n at k → (ltb k n && lt at.index limit) ≡ true → at' ≡ step_index d at → Led t d i limit n at' (k + 1)
+  pub led_next : (at at' : Moment) (k : ℕ) → Led t d i limit n at k → lt at.index limit ≡ true → at' ≡ step_index d at → Led t d i limit n at' (k + 1)
   led_next at at' k l h e =
       record {
         moment = subst (λ (z : ℕ). at' ≡ path_at t d i z) (omega arith) (path_next t d i at at' (suc k) l.moment e);
-        left = λ m s. l.left (suc m) (omega arith) ∙ ap (λ (z : ℕ). k + z) (leading_on t d i limit k m (ap (λ (a : Moment). lt a.index limit) (sym l.moment) ∙ (more_of k n _ h).1)) ∙ go m;
+        left = λ m s. l.left (suc m) (omega arith) ∙ ap (λ (z : ℕ). k + z) (leading_on t d i limit k m (ap (λ (a : Moment). lt a.index limit) (sym l.moment) ∙ h)) ∙ go m;
       }
     where
       go : (m : ℕ) → k + suc (leading t d i limit (suc k) m) ≡ k + 1 + leading t d i limit (k + 1) m
       go m = rw add-one (omega arith)
 
-  pub led_done : (at : Moment) (k : ℕ) → Led t d i limit n at k → k ≤ n → (ltb k n && lt at.index limit) ≡ false
+  -- the first frame that is not below the limit, or none such
+  pub led_over : (at : Moment) (k : ℕ) → Led t d i limit n at k → k < n → lt at.index limit ≡ false
       → (k ≡ leading t d i limit 0 n) × (at.index ≡ (path_at t d i (suc k)).index)
-  led_done at k l h o = (go (le_dest h).0 (le_dest h).1, ap (λ (a : Moment). a.index) l.moment)
+  led_over at k l h o = (go (le_dest h).0 (le_dest h).1, ap (λ (a : Moment). a.index) l.moment)
     where
-      go : (m : ℕ) → k + m ≡ n → k ≡ leading t d i limit 0 n
-      go zero e = omega (arith, l.left 0 e, leading_none t d i limit k)
-      go (suc m) e =
-          omega (arith, l.left (suc m) e, leading_off t d i limit k m (ap (λ (a : Moment). lt a.index limit) (sym l.moment) ∙ over_of_lem k n _ o (omega arith)))
+      go : (m : ℕ) → suc k + m ≡ n → k ≡ leading t d i limit 0 n
+      go m e = omega (arith, l.left (suc m) (omega arith), leading_off t d i limit k m (ap (λ (a : Moment). lt a.index limit) (sym l.moment) ∙ o))
+
+  pub led_all : (at : Moment) (k : ℕ) → Led t d i limit n at k → k ≡ n → (n ≡ leading t d i limit 0 n) × (at.index ≡ (path_at t d i (suc n)).index)
+  led_all at k l e = (
+    omega (arith, l.left 0 (omega arith), leading_none t d i limit k),
+    subst (λ (z : ℕ). at.index ≡ (path_at t d i (suc z)).index) e (ap (λ (a : Moment). a.index) l.moment),
+  )
 
 -- ---- the outcome put together
 module _ (s : State) (used total : ℕ) (t d x : Float) (a : t ≡ step_now_of s) (b : d ≡ increment_of s) where

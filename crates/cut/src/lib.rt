@@ -4,7 +4,7 @@
 // where they are doubles without rounding.
 #![tactic(auto)]
 
-ghost use Rattle.std.specs.Prelude.{◌≡◌, suc, min};
+ghost use Rattle.std.specs.Prelude.{◌≡◌, suc};
 ghost use Rattle.path.specs.Path.{path_at};
 ghost use Rattle.cut.specs.Cut.{limit_of, leading, kept_of};
 
@@ -13,7 +13,7 @@ use state::State;
 
 // The frames `from` up to, and not including, `to` are kept. `index` is that of the frame `from`; where the
 // block has no such frame, the one that its next frame would have.
-#[derive(Clone, Copy)]
+#[derive(Clone, Copy, Debug)]
 pub struct KeptFrames {
     pub from: usize,
     pub to: usize,
@@ -27,21 +27,15 @@ struct Lead {
     index: f64,
 }
 
-// At most 2^18: past that lies no index of a block that is not refused.
-fn near(n: u64) -> u64
-    ensures { result ≡ min n 262144 }
-{
-    if n <= 262144 { n } else { 262144 }
-}
-
-// The index of the position edge - 2^-20.
+// The index of the position edge - 2^-20. It goes up to 2^18 from the block: past that lies no index of a block
+// that is not refused.
 fn limit(used: u64, edge: u64) -> f64
     ensures { result ≡ limit_of used edge }
 {
     if edge <= used {
-        return -0.00000095367431640625 - std::num::nearest_u64_to_f64(near(used - edge));
+        return -0.00000095367431640625 - std::num::nearest_u64_to_f64((used - edge).min(262144));
     }
-    std::num::nearest_u64_to_f64(near(edge - used)) - 0.00000095367431640625
+    std::num::nearest_u64_to_f64((edge - used).min(262144)) - 0.00000095367431640625
 }
 
 // Of the first n frames, those before the first one whose index is not below `most`.
@@ -50,13 +44,17 @@ fn leading(t: f64, d: f64, i: f64, most: f64, n: usize) -> Lead
     ensures index { result.index ≡ (path_at t d i (suc result.count)).index }
 {
     let mut at = path::step_index(Moment { index: i, step: t }, d);
-    let mut k = 0;
-    while (k < n) & (at.index < most) {
+    for k in 0..n {
+        if !(at.index < most) {
+            return Lead {
+                count: k,
+                index: at.index,
+            };
+        }
         at = path::step_index(at, d);
-        k += 1;
     }
     Lead {
-        count: k,
+        count: n,
         index: at.index,
     }
 }
