@@ -3,9 +3,8 @@
 #![tactic(auto)]
 
 ghost use Rattle.std.specs.Prelude.{◌≡◌, length};
-ghost use Rattle.exact.specs.Doubles.{◌+f◌, ◌*f◌};
-ghost use Rattle.rows.specs.Rows.{term, row_sum, horner, septic, quintic};
-ghost use Rattle.rows.specs.Turns.{step_part, top, septic_top, septic_rest, quintic_top, quintic_rest};
+ghost use Rattle.rows.specs.Rows.{row_sum, septic, quintic};
+ghost use Rattle.rows.specs.Turns.{step_part, row_next, top};
 
 // One row for each power of x, the highest first.
 const SEPTIC: [[i32; 8]; 8] = [
@@ -28,86 +27,45 @@ const QUINTIC: [[i32; 6]; 6] = [
     [0, 0, 120, 0, 0, 0],
 ];
 
-// A row's sum so far: nothing yet where `any` is false, so that no term is added to 0.0.
-#[derive(Clone, Copy)]
-struct Part {
-    any: bool,
-    sum: f64,
-}
-
-fn times(c: i32, y: f64) -> f64
-    ensures { result ≡ term c y }
-{
-    (c as f64) * y
-}
-
-// One entry more of a row. A zero entry is skipped.
-fn step(p: Part, c: i32, y: f64) -> Part
-    ensures { result ≡ step_part p c y }
+// One entry more of a row. Its sum is None before the first term, so that no term is added to 0.0; a zero
+// entry is skipped.
+fn step(sum: Option<f64>, c: i32, y: f64) -> Option<f64>
+    ensures { result ≡ step_part sum c y }
 {
     if c == 0 {
-        return p;
+        return sum;
     }
-    let t = times(c, y);
-    if p.any {
-        Part {
-            any: true,
-            sum: p.sum + t,
-        }
-    } else {
-        Part { any: true, sum: t }
-    }
+    let t = (c as f64) * y;
+    Some(sum.map_or(t, |s| s + t))
 }
 
 // The row's sum on the samples, left to right.
 fn row_sum(row: &[i32], ys: &[f64]) -> f64
-    requires { length row.now ≡ length ys.now }
     ensures { result ≡ row_sum row.now ys.now }
 {
-    let mut p = Part {
-        any: false,
-        sum: 0.0,
-    };
-    let mut j = 0;
-    while j < row.len() {
-        p = step(p, row[j], ys[j]);
-        j += 1;
+    let mut sum = None;
+    for (c, y) in row.iter().zip(ys) {
+        sum = step(sum, *c, *y);
     }
-    p.sum
+    sum.unwrap_or(0.0)
 }
 
-// One step of Horner: the next row's sum plus x times what the rows before it gave.
-fn next(row: &[i32], x: f64, ys: &[f64], acc: f64) -> f64
-    requires { length row.now ≡ length ys.now }
-    ensures { result ≡ row_sum row.now ys.now +f x *f acc }
+// One row more: its sum, plus x times what the rows before it gave.
+fn next(acc: Option<f64>, x: f64, sum: f64) -> f64
+    ensures { result ≡ row_next x acc sum }
 {
-    row_sum(row, ys) + x * acc
+    acc.map_or(sum, |a| sum + x * a)
 }
 
-// The rows of x^7 to x^4. Each row is named by a literal: a row at a computed place would have the
-// whole table copied at every look. A table is gone through in two parts, since what is to be shown
-// of one function grows with the square of its length.
-fn septic_top(x: f64, ys: &[f64]) -> f64
-    requires { length ys.now ≡ 8 }
-    ensures { result ≡ top x ys.now septic_top }
+// Horner over the rows, the highest power first.
+fn horner<const L: usize>(rows: &[[i32; L]; L], x: f64, ys: &[f64]) -> f64
+    ensures { result ≡ top x ys.now rows.now }
 {
-    let rows = SEPTIC;
-    let s7 = row_sum(&rows[0], ys);
-    let s6 = next(&rows[1], x, ys, s7);
-    let s5 = next(&rows[2], x, ys, s6);
-    next(&rows[3], x, ys, s5)
-}
-
-// The rows of x^3 to x^0, after what those above gave.
-fn septic_rest(x: f64, ys: &[f64], s4: f64) -> f64
-    requires { length ys.now ≡ 8 }
-    ensures { result ≡ horner x ys.now s4 septic_rest }
-{
-    let rows = SEPTIC;
-    let s3 = next(&rows[4], x, ys, s4);
-    let s2 = next(&rows[5], x, ys, s3);
-    let s1 = next(&rows[6], x, ys, s2);
-    next(&rows[7], x, ys, s1)
+    let mut acc = None;
+    for row in rows {
+        acc = Some(next(acc, x, row_sum(row, ys)));
+    }
+    acc.unwrap_or(0.0)
 }
 
 // Samples at x = -3, -2, .., 4.
@@ -115,30 +73,7 @@ pub fn septic_of(x: f64, ys: &[f64]) -> f64
     requires { length ys.now ≡ 8 }
     ensures { result ≡ septic x ys.now }
 {
-    let s4 = septic_top(x, ys);
-    (1.0 / 5040.0) * septic_rest(x, ys, s4)
-}
-
-// The rows of x^5 to x^3.
-fn quintic_top(x: f64, ys: &[f64]) -> f64
-    requires { length ys.now ≡ 6 }
-    ensures { result ≡ top x ys.now quintic_top }
-{
-    let rows = QUINTIC;
-    let s5 = row_sum(&rows[0], ys);
-    let s4 = next(&rows[1], x, ys, s5);
-    next(&rows[2], x, ys, s4)
-}
-
-// The rows of x^2 to x^0, after what those above gave.
-fn quintic_rest(x: f64, ys: &[f64], s3: f64) -> f64
-    requires { length ys.now ≡ 6 }
-    ensures { result ≡ horner x ys.now s3 quintic_rest }
-{
-    let rows = QUINTIC;
-    let s2 = next(&rows[3], x, ys, s3);
-    let s1 = next(&rows[4], x, ys, s2);
-    next(&rows[5], x, ys, s1)
+    (1.0 / 5040.0) * horner(&SEPTIC, x, ys)
 }
 
 // Samples at x = -2, -1, .., 3.
@@ -146,6 +81,5 @@ pub fn quintic_of(x: f64, ys: &[f64]) -> f64
     requires { length ys.now ≡ 6 }
     ensures { result ≡ quintic x ys.now }
 {
-    let s3 = quintic_top(x, ys);
-    (1.0 / 120.0) * quintic_rest(x, ys, s3)
+    (1.0 / 120.0) * horner(&QUINTIC, x, ys)
 }

@@ -1,9 +1,8 @@
--- `rows::septic_of` is the kernel of its rows: the upper ones, then the lower ones. Assumes nothing.
+-- `rows::septic_of` is the kernel of its rows. Assumes nothing.
 use lib.Ieee.{of_bits, of_int}
-use Rattle.rows.proofs.Laws.{top_rest}
+use Rattle.rows.proofs.Laws.{top_kernel}
 use Rattle.rows.proofs.septic_of.Goals as goal
 
 pub returns : goal.returns
 unfolding of_bits of_int
-returns c = let a = c.args in
-    top_rest a.x a.ys.now _ _ _ _ _ _ c.septic_top-s4.ensures c.septic_rest.ensures
+returns c = top_kernel c.args.x c.args.ys.now _ _ _ _ c.horner.ensures
