@@ -3,10 +3,11 @@
 // q = index * factor + subindex. q can pass 2^64, so it is never formed: index and subindex stay apart.
 #![tactic(auto)]
 
-ghost use Rattle.std.specs.Prelude.{◌≡◌, ◌≤◌, true, pos, ◌+ℤ◌, ◌-ℤ◌};
+ghost use Rattle.std.specs.Prelude.{◌≡◌, ◌+◌, ◌≤◌, true, pos, ◌+ℤ◌, ◌-ℤ◌};
 ghost use Rattle.error.specs.Refusals.{said_result};
-ghost use Rattle.interpolation.specs.Grid.{in_range, point_of, said_time, nearest1, nearest2, nearest3, nearest4};
-ghost use Rattle.interpolation.specs.Steps.{inner_of, whole_by, begin_of, start_q, Ready};
+ghost use Rattle.whole.specs.Rounded.{floor_of};
+ghost use Rattle.interpolation.specs.Grid.{in_range, point_of, grid_said, said_time, nearest1, nearest2, nearest3, nearest4};
+ghost use Rattle.interpolation.specs.Steps.{inner_of, start_q, Ready, offsets};
 
 use error::Refusal;
 
@@ -32,12 +33,6 @@ struct Inner {
     product: f64,
 }
 
-// How the parts are made a whole number: one point takes the nearest.
-const NEAREST: bool = true;
-
-// The others take the floor.
-const FLOOR: bool = false;
-
 // Three and four points take a factor of 3 at least.
 const LEAST: u64 = 3;
 
@@ -49,7 +44,8 @@ fn in_range(t: f64, factor: u64, least: u64) -> bool
 }
 
 // The point `ahead` places after q - 1. The index gives a whole time away first, so that q - 1 has
-// parts to be taken from; then each whole time among the parts goes back to the index.
+// parts to be taken from; then each whole time among the parts goes back to the index, two turns at most,
+// where a division would cost more.
 fn place(start: Start, factor: u64, ahead: u64) -> Point
     requires { Ready factor start × (ahead ≤ 3) }
     ensures { result ≡ point_of factor (start_q factor start +ℤ (pos ahead -ℤ pos 1)) }
@@ -77,76 +73,64 @@ fn inner_of(t: f64, factor: u64) -> Inner
     Inner { index, product }
 }
 
-// The product as a whole number: the nearest, a half away from zero, or the floor.
-fn made_whole(product: f64, nearest: bool) -> f64
-    ensures { result ≡ whole_by nearest product }
-{
-    if nearest {
-        return whole::round(product);
-    }
-    whole::floor(product)
-}
-
-// Where q lies.
-fn start_of(t: f64, factor: u64, nearest: bool) -> Start
-    requires { in_range 1 t factor ≡ true }
-    ensures { (result ≡ begin_of (whole_by nearest) t factor) × Ready factor result }
-{
-    let i = inner_of(t, factor);
-    let parts = std::num::truncating_f64_to_u64(made_whole(i.product, nearest));
-    let index = i.index;
-    Start { index, parts }
-}
-
-// The nearest point.
+// The nearest point: the product is made a whole number by the nearest one, a half away from zero.
 pub fn get_nearest_time(t: f64, factor: u64) -> Result<Point, Refusal>
     ensures { said_time result ≡ nearest1 t factor }
 {
     if !in_range(t, factor, 1) {
         return Err(Refusal::Argument);
     }
-    let s = start_of(t, factor, NEAREST);
-    Ok(place(s, factor, 1))
+    let i = inner_of(t, factor);
+    let parts = std::num::truncating_f64_to_u64(whole::round(i.product));
+    let index = i.index;
+    Ok(place(Start { index, parts }, factor, 1))
+}
+
+// The N points from the one `ahead` places after q - 1 on, q by the floor of the product.
+fn run_of<const N: usize>(
+    t: f64,
+    factor: u64,
+    least: u64,
+    ahead: u64,
+) -> Result<[Point; N], Refusal>
+    requires { (1 ≤ least) × (ahead + N ≤ 4) }
+    ensures { said_result result ≡ grid_said least floor_of (offsets N ahead) t factor }
+{
+    if !in_range(t, factor, least) {
+        return Err(Refusal::Argument);
+    }
+    let i = inner_of(t, factor);
+    let parts = std::num::truncating_f64_to_u64(whole::floor(i.product));
+    let index = i.index;
+    let start = Start { index, parts };
+    let mut points = [Point {
+        index: 0,
+        subindex: 0,
+    }; N];
+    // what the contract says of each element written is said by its index
+    for k in 0..N {
+        points[k] = place(start, factor, ahead + k as u64);
+    }
+    Ok(points)
 }
 
 // The two points q and q + 1. At a fraction that rounds to 1.0 the first is the next whole time.
 pub fn get_nearest_times_2(t: f64, factor: u64) -> Result<[Point; 2], Refusal>
     ensures { said_result result ≡ nearest2 t factor }
 {
-    if !in_range(t, factor, 1) {
-        return Err(Refusal::Argument);
-    }
-    let s = start_of(t, factor, FLOOR);
-    Ok([place(s, factor, 1), place(s, factor, 2)])
+    run_of(t, factor, 1, 1)
 }
 
 // The three points from q on.
 pub fn get_nearest_times_3(t: f64, factor: u64) -> Result<[Point; 3], Refusal>
     ensures { said_result result ≡ nearest3 t factor }
 {
-    if !in_range(t, factor, LEAST) {
-        return Err(Refusal::Argument);
-    }
-    let s = start_of(t, factor, FLOOR);
-    Ok([
-        place(s, factor, 1),
-        place(s, factor, 2),
-        place(s, factor, 3),
-    ])
+    run_of(t, factor, LEAST, 1)
 }
 
 // The four points from q - 1 on.
 pub fn get_nearest_times_4(t: f64, factor: u64) -> Result<[Point; 4], Refusal>
     ensures { said_result result ≡ nearest4 t factor }
 {
-    if !in_range(t, factor, LEAST) {
-        return Err(Refusal::Argument);
-    }
-    let s = start_of(t, factor, FLOOR);
-    Ok([
-        place(s, factor, 0),
-        place(s, factor, 1),
-        place(s, factor, 2),
-        place(s, factor, 3),
-    ])
+    run_of(t, factor, LEAST, 0)
 }

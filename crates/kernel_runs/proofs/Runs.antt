@@ -55,10 +55,3 @@ fit_at degree m places (suc n) k h l = ⊎_elim (λ (e : k ≡ n). rw e h.1) (λ
 pub run_asks : (degree : PolynomialDegree) (work : List Float) (places : List ℕ) (fracs out : List Float) (k : ℕ) → Runs degree work places fracs out → k < length out
     → ((k < length places) × (k < length fracs)) × (get_or places k 0 + points_of degree ≤ length work)
 run_asks degree work places fracs out k r l = ((omega (arith, r.placed), omega (arith, r.parted)), fit_at degree (length work) places (length out) k r.fit l)
-
--- the choice of a degree
-pub runs_as : (degree d : PolynomialDegree) (work : List Float) (places : List ℕ) (fracs out : List Float) → degree ≡ d → Runs degree work places fracs out → Runs d work places fracs out
-runs_as degree d work places fracs out e r = subst (λ (z : PolynomialDegree). Runs z work places fracs out) e r
-
-pub run_as : (degree d : PolynomialDegree) (work : List Float) (places : List ℕ) (fracs : List Float) (n : ℕ) (out : List Float) → degree ≡ d → out ≡ run_to d work places fracs n → out ≡ run_to degree work places fracs n
-run_as degree d work places fracs n out e h = h ∙ ap (λ (z : PolynomialDegree). run_to z work places fracs n) (sym e)

@@ -1,9 +1,10 @@
-// The kernel of a degree at a run of places: a function for each degree, so that the degree is chosen once for
-// a run and not for each sample. Only our own crates call these functions.
+// The kernel of a degree at a run of places. The degree is chosen once for a run and not for each sample. Only
+// our own crates call these functions.
 #![tactic(auto)]
 
 ghost use Rattle.std.specs.Prelude.{◌≡◌, ◌+◌, ◌<◌, ◌≤◌, length, get_or};
 ghost use Rattle.std.specs.Float.{nan};
+ghost use Rattle.asynchro_fast.specs.declared.PolynomialDegree.{PolynomialDegree};
 ghost use Rattle.asynchro_fast.specs.Degrees.{points_of};
 ghost use Rattle.kernel_runs.specs.Runs.{kernel_on, run_to, Runs};
 
@@ -18,63 +19,71 @@ pub fn kernel_at(degree: PolynomialDegree, work: &[f64], s: usize, x: f64) -> f6
     asynchro_fast::interp(degree, x, &work[s..e])
 }
 
-// The sample of frame k.
-fn frame_at(
-    degree: PolynomialDegree,
-    work: &[f64],
-    places: &[usize],
-    fracs: &[f64],
-    k: usize,
-) -> f64
-    requires k_in_bounds { (k < length places.now) × (k < length fracs.now) }
-    requires degree_in_bounds { get_or places.now k 0 + points_of degree ≤ length work.now }
-    ensures { result ≡ kernel_on degree work.now (get_or places.now k 0) (get_or fracs.now k nan) }
-{
-    kernel_at(degree, work, places[k], fracs[k])
+// A degree as a type: a run is compiled once for each, and the degree is not looked at for each sample.
+trait Kernel {
+    ghost degree: { PolynomialDegree };
+
+    fn degree() -> PolynomialDegree
+        ensures { result ≡ degree };
 }
 
-fn nearest_run(work: &[f64], places: &[usize], fracs: &[f64], out: &mut [f64])
-    requires { Runs PolynomialDegree.Nearest work.now places.now fracs.now out.old }
-    ensures { out.new ≡ run_to PolynomialDegree.Nearest work.now places.now fracs.now (length out.old) }
-{
-    for k in 0..out.len() {
-        out[k] = frame_at(PolynomialDegree::Nearest, work, places, fracs, k);
+struct Nearest;
+
+impl Kernel for Nearest {
+    ghost degree = { PolynomialDegree.Nearest };
+
+    fn degree() -> PolynomialDegree {
+        PolynomialDegree::Nearest
     }
 }
 
-fn linear_run(work: &[f64], places: &[usize], fracs: &[f64], out: &mut [f64])
-    requires { Runs PolynomialDegree.Linear work.now places.now fracs.now out.old }
-    ensures { out.new ≡ run_to PolynomialDegree.Linear work.now places.now fracs.now (length out.old) }
-{
-    for k in 0..out.len() {
-        out[k] = frame_at(PolynomialDegree::Linear, work, places, fracs, k);
+struct Linear;
+
+impl Kernel for Linear {
+    ghost degree = { PolynomialDegree.Linear };
+
+    fn degree() -> PolynomialDegree {
+        PolynomialDegree::Linear
     }
 }
 
-fn cubic_run(work: &[f64], places: &[usize], fracs: &[f64], out: &mut [f64])
-    requires { Runs PolynomialDegree.Cubic work.now places.now fracs.now out.old }
-    ensures { out.new ≡ run_to PolynomialDegree.Cubic work.now places.now fracs.now (length out.old) }
-{
-    for k in 0..out.len() {
-        out[k] = frame_at(PolynomialDegree::Cubic, work, places, fracs, k);
+struct Cubic;
+
+impl Kernel for Cubic {
+    ghost degree = { PolynomialDegree.Cubic };
+
+    fn degree() -> PolynomialDegree {
+        PolynomialDegree::Cubic
     }
 }
 
-fn quintic_run(work: &[f64], places: &[usize], fracs: &[f64], out: &mut [f64])
-    requires { Runs PolynomialDegree.Quintic work.now places.now fracs.now out.old }
-    ensures { out.new ≡ run_to PolynomialDegree.Quintic work.now places.now fracs.now (length out.old) }
-{
-    for k in 0..out.len() {
-        out[k] = frame_at(PolynomialDegree::Quintic, work, places, fracs, k);
+struct Quintic;
+
+impl Kernel for Quintic {
+    ghost degree = { PolynomialDegree.Quintic };
+
+    fn degree() -> PolynomialDegree {
+        PolynomialDegree::Quintic
     }
 }
 
-fn septic_run(work: &[f64], places: &[usize], fracs: &[f64], out: &mut [f64])
-    requires { Runs PolynomialDegree.Septic work.now places.now fracs.now out.old }
-    ensures { out.new ≡ run_to PolynomialDegree.Septic work.now places.now fracs.now (length out.old) }
+struct Septic;
+
+impl Kernel for Septic {
+    ghost degree = { PolynomialDegree.Septic };
+
+    fn degree() -> PolynomialDegree {
+        PolynomialDegree::Septic
+    }
+}
+
+// The kernel of one degree at as many places as the output has room for.
+fn run<K: Kernel>(work: &[f64], places: &[usize], fracs: &[f64], out: &mut [f64])
+    requires { Runs K.degree work.now places.now fracs.now out.old }
+    ensures { out.new ≡ run_to K.degree work.now places.now fracs.now (length out.old) }
 {
     for k in 0..out.len() {
-        out[k] = frame_at(PolynomialDegree::Septic, work, places, fracs, k);
+        out[k] = kernel_at(K::degree(), work, places[k], fracs[k]);
     }
 }
 
@@ -90,10 +99,10 @@ pub fn kernel_run(
     ensures { out.new ≡ run_to degree work.now places.now fracs.now (length out.old) }
 {
     match degree {
-        PolynomialDegree::Nearest => nearest_run(work, places, fracs, out),
-        PolynomialDegree::Linear => linear_run(work, places, fracs, out),
-        PolynomialDegree::Cubic => cubic_run(work, places, fracs, out),
-        PolynomialDegree::Quintic => quintic_run(work, places, fracs, out),
-        PolynomialDegree::Septic => septic_run(work, places, fracs, out),
+        PolynomialDegree::Nearest => run::<Nearest>(work, places, fracs, out),
+        PolynomialDegree::Linear => run::<Linear>(work, places, fracs, out),
+        PolynomialDegree::Cubic => run::<Cubic>(work, places, fracs, out),
+        PolynomialDegree::Quintic => run::<Quintic>(work, places, fracs, out),
+        PolynomialDegree::Septic => run::<Septic>(work, places, fracs, out),
     }
 }
