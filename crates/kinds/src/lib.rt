@@ -7,7 +7,7 @@ ghost use Rattle.kinds.specs.Kinds.{points_of, sinc_holds, kind_holds, table_of}
 use asynchro_fast::PolynomialDegree;
 use asynchro_sinc::SincInterpolationType;
 
-#[derive(Clone, Copy)]
+#[derive(Clone, Copy, Debug, PartialEq, Eq)]
 pub enum Kind {
     // A polynomial of this degree.
     Polynomial(PolynomialDegree),

@@ -19,7 +19,7 @@ use shape::Lent;
 use state::State;
 
 // The two sizes that a block used.
-#[derive(Clone, Copy)]
+#[derive(Clone, Copy, Debug, PartialEq, Eq)]
 pub struct Sizes {
     pub input: usize,
     pub output: usize,
