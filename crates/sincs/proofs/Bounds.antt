@@ -1,6 +1,5 @@
 -- What the tests of points, factor and cutoff say, and that the sine is asked for less than 2 ^ 52 steps. Assumes nothing.
-use Rattle.std.proofs.Common.{◌≡◌, ℕ, zero, suc, ◌+◌, ◌*◌, ◌/◌, ◌%◌, ◌^◌, ◌<◌, ◌≤◌, Bool, true, false, ◌&&◌, T, leb, sym, refl, subst, le_trans, mod-lt, mul_comm, div-lt_iff_lt-mul, mul-le-mul_left, mul-zero, le-div_iff_mul-le, zero-mul, le-mul_of_pos_right, arith, lit<, lit≤, le-leb, leb-true}
-use borrow.Author.Tests.{lt-leb}
+use Rattle.std.proofs.Common.{◌≡◌, ℕ, zero, suc, ◌+◌, ◌*◌, ◌/◌, ◌%◌, ◌^◌, ◌<◌, ◌≤◌, Bool, true, false, ◌&&◌, T, leb, sym, refl, subst, le_trans, mod-lt, mul_comm, div-lt_iff_lt-mul, mul-le-mul_left, mul-zero, le-div_iff_mul-le, zero-mul, le-mul_of_pos_right, arith, lit<, lit≤, leb-true}
 use lib.Ieee.{Float, nan, inf, fin, binary64, low, fits, lt, le, round, of_int, of_bits}
 use lib.Ieee.Back.{round_whole}
 use Rattle.exact.specs.Doubles.{count, zero_f, one_f}
@@ -36,29 +35,9 @@ product points factor h = go points factor (leb-true 2 (points * factor) b.0) (l
     go (suc p) zero l m = absurd (omega (arith, mul-zero (suc p)))
     go (suc p) (suc f) l m = record { least = l; most = m; points_some = omega arith; factor_some = omega arith; factor_most = omega (arith, le-mul_of_pos_right {m = suc p} (suc f) (omega arith), mul_comm (suc f) (suc p)) }
 
--- the tests that the code makes, before it forms the product
-pub product_none : (p f : ℕ) → f ≡ 0 → false ≡ product_holds p f
-product_none p f e = rw (e, mul-zero p)
-
-pub product_over : (m p f : ℕ) → 0 < f → m / f < p → m < p * f
-product_over m p f F h = (div-lt_iff_lt-mul {k = f} {x = m} {y = p} F).0 h
-
-pub product_under : (m p f : ℕ) → 0 < f → p ≤ m / f → p * f ≤ m
-product_under m p f F h = (le-div_iff_mul-le {k = f} {x = p} {y = m} F).0 h
-
--- at the limit itself, for crates/table
+-- by a division, at the limit itself, for crates/table
 pub product_most : (p f : ℕ) → 0 < f → p ≤ 65536 / f → p * f ≤ 65536
-product_most = product_under 65536
-
-pub product_large : (p f : ℕ) → 65536 < p * f → false ≡ product_holds p f
-product_large p f l = rw (le-leb 2 (p * f) (omega arith), lt-leb (p * f) 65536 l)
-
-pub product_least : (p f : ℕ) → p * f ≤ 65536 → leb 2 (p * f) ≡ product_holds p f
-product_least p f h = rw (le-leb (p * f) 65536 h) (sym (and-true (leb 2 (p * f))))
-  where
-    and-true : (b : Bool) → (b && true) ≡ b
-    and-true true = refl
-    and-true false = refl
+product_most p f F h = (le-div_iff_mul-le {k = f} {x = p} {y = 65536} F).0 h
 
 -- ---- the number of the value at entry j
 module _ (points factor j : ℕ) (p : Product points factor) (h : j < points * factor) where

@@ -101,18 +101,14 @@ impl Windowed {
     }
 }
 
-// 2 to 65,536 entries. Points and factor may be any numbers: the product is formed where it is
-// known to be small.
+// 2 to 65,536 entries. Points and factor may be any numbers.
 fn product_holds(points: usize, factor: usize) -> bool
     ensures { result ≡ product_holds points factor }
 {
-    if factor == 0 {
-        return false;
+    match points.checked_mul(factor) {
+        Some(entries) => (2 <= entries) & (entries <= 65536),
+        None => false,
     }
-    if points > 65536 / factor {
-        return false;
-    }
-    2 <= points * factor
 }
 
 // 0 excluded to 1. A NaN is outside.
