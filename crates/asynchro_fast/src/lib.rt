@@ -24,7 +24,8 @@ pub enum PolynomialDegree {
     Septic,
 }
 
-// L, the number of samples that the kernel reads.
+// L, the number of samples that the kernel reads. Here and in `points_before` the numbers are the degree's
+// own: they follow no rule that could take the place of a row for each.
 pub fn nbr_points(degree: PolynomialDegree) -> usize
     ensures { result ≡ points_of degree }
 {
@@ -101,6 +102,8 @@ pub fn interp_answer(degree: PolynomialDegree, x: f64, ys: &[f64]) -> Result<f64
         Err(Refusal::Argument)
     }
 }
+
+// The five kernels by the names that document 01 ports; all are `interp_answer`.
 
 // Samples at x = -3, -2, .., 4.
 pub fn interp_septic(x: f64, ys: &[f64]) -> Result<f64, Refusal>

@@ -21,7 +21,8 @@ pub enum Refusal {
     Argument,
 }
 
-// The floats that a refusal carries: the first `count` of `values`, the others 0.0.
+// The floats that a refusal carries: the first `count` of `values`, the others 0.0. The library has no heap,
+// so that the list is an array with its length.
 #[derive(Clone, Copy, Debug, PartialEq)]
 pub struct Carried {
     pub count: usize,

@@ -8,7 +8,8 @@ ghost use Rattle.sinc_parameters.specs.Parameters.{new_of, default_of, with_sinc
 use asynchro_sinc::SincInterpolationType;
 use windows::WindowFunction;
 
-// The relative cutoff frequency. The source has an `Option<f32>` here.
+// The relative cutoff frequency. The source has an `Option<f32>` here; document 01 has an enum that carries
+// an f32.
 #[derive(Clone, Copy, Debug, PartialEq)]
 pub enum Cutoff {
     // Left to `windows::calculate_cutoff`, by the length and the window.

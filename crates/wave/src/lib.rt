@@ -78,7 +78,8 @@ fn line_from(wave: &QuarterWave, place: usize, x: f64) -> f64
     (a + x * (b - a)) * 9.313225746154785e-10
 }
 
-// The line so many places ahead of k.
+// The line so many places ahead of k. That k is small stands here and in the two that are lent the wave,
+// and in no type: who calls them has just divided for k, and would wrap it for this one call.
 fn line_at(wave: &QuarterWave, k: f64, ahead: usize) -> f64
     requires k_value { small k ≡ true }
     requires ahead_bound { ahead ≤ 4096 }
