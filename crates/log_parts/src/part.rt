@@ -1,7 +1,6 @@
 // The part of the log that stands in the buffer.
 ghost use Rattle.std.specs.Prelude.{◌≡◌, ◌+◌, ◌-◌, ◌<◌, ◌≤◌, length, take, drop};
 
-use printer::put_bytes;
 use system::{Fd, System};
 
 // The bytes up to `end` were read, and those up to `at` are walked. `last` says that the log ends there, since
@@ -24,18 +23,6 @@ pub fn passed(p: Part, n: usize) -> Part
     q
 }
 
-// Puts the bytes that are not walked, fewer than a record can have, at the front of the buffer. Only this
-// crate calls this function.
-fn move_front(buf: &mut [u8], at: usize, end: usize)
-    requires { (at ≤ end) × (end ≤ length buf.old) × (end - at < 71) }
-    ensures { take (end - at) buf.new ≡ drop at (take end buf.old) }
-{
-    let mut held = [0u8; 71];
-    put_bytes(&mut held, 0, &buf[at..end]);
-    let n = end - at;
-    put_bytes(buf, 0, &held[..n]);
-}
-
 // The bytes that are not walked, at the front, and more of the log behind them. Only our own crates call this.
 pub fn more(sys: &mut System, p: Part, fd: Fd, buf: &mut [u8]) -> Part
     requires { (p.at ≤ p.end) × (p.end ≤ length buf.old) × (p.end - p.at < 71) × (71 ≤ length buf.old) }
@@ -44,7 +31,7 @@ pub fn more(sys: &mut System, p: Part, fd: Fd, buf: &mut [u8]) -> Part
 {
     let at = p.at;
     let end = p.end;
-    move_front(buf, at, end);
+    buf.copy_within(at..end, 0);
     let n = end - at;
     let got = sys.read(fd, &mut buf[n..]);
     let count = got.unwrap_or(0);

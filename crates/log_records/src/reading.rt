@@ -4,19 +4,12 @@ ghost use Rattle.log_records.specs.Records.{two_at, is_kind, total, mark_agrees,
 
 use crate::Record;
 
-// Only this crate calls this function.
-fn wide(byte: u8) -> usize
-    ensures { (result ≡ byte) × (result < 256) }
-{
-    byte as usize
-}
-
 // The number of two bytes. Only this crate calls this function.
 fn two_at(log: &[u8], at: usize) -> usize
     requires { at + 2 ≤ length log.now }
     ensures { (result ≡ two_at log.now at) × (result < 65536) }
 {
-    wide(log[at]) + 256 * wide(log[at + 1])
+    usize::from(log[at]) + 256 * usize::from(log[at + 1])
 }
 
 // A construction, a setting, a block or a reset.
@@ -41,8 +34,8 @@ pub fn total_of(bytes: &[u8], from: usize, n: usize) -> usize
     ensures { (result ≡ total (take n (drop from bytes.now))) × (result ≤ 255 * n) }
 {
     let mut sum = 0;
-    for k in 0..n {
-        sum += wide(bytes[from + k]);
+    for byte in &bytes[from..from + n] {
+        sum += usize::from(*byte);
     }
     sum
 }

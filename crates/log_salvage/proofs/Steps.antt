@@ -2,10 +2,10 @@
 use mathlib.Core.Bool.{Bool, true, false, not, cond, ◌&&◌, ◌||◌, true≢false}
 use mathlib.Core.List.{List, [], ◌∷◌}
 use mathlib.Core.Path.{◌≡◌, refl, sym, ap, ◌∙◌}
-use Prim.Native.Nat.{ℕ, suc, ◌+◌, ◌-◌, ◌≤◌, ◌<◌}
+use Prim.Native.Nat.{ℕ, suc, max, ◌+◌, ◌-◌, ◌≤◌, ◌<◌}
 use native.Mathlib.Numerals.{add-one}
 use native.Mathlib.Omega.{arith}
-use borrow.Author.Tests.{le-leb, lt-leb, lt-ltb, le-ltb, ltb-true, ltb-false, not-true, not-false}
+use borrow.Author.Tests.{le-leb, lt-leb, lt-ltb, le-ltb, ltb-true, ltb-false, leb-true, leb-false, not-true, not-false}
 use lib.Dec.{ltb, leb}
 use lib.ListN.{length, get_or, drop, drop_of_length-le, length-drop}
 use lib.Seq.{drop-cons}
@@ -72,6 +72,14 @@ walked_stop last part at p r w e h = omega (arith, skips_stop last (drop p part)
 
 pub walked_end : (last : Bool) (part : List ℕ) (at p : ℕ) → Walked last part at p → length part ≤ p → p ≡ at + skips last (drop at part)
 walked_end last part at p w h = omega (arith, skips_end last part p h, w.same)
+
+-- and where no place is left the walk is at the bytes' end, or where it began behind it
+pub walked_all : (last : Bool) (part : List ℕ) (at p : ℕ) → Walked last part at p → (at ≤ length part → p ≤ length part) → length part ≤ p → max at (length part) ≡ at + skips last (drop at part)
+walked_all last part at p w b h = go (leb at (length part)) refl
+  where
+    go : (t : Bool) → leb at (length part) ≡ t → max at (length part) ≡ at + skips last (drop at part)
+    go true e = let k = b (leb-true at (length part) e) in omega (arith, walked_end last part at p w h)
+    go false e = let k = leb-false at (length part) e in omega (arith, skips_end last part at (omega arith))
 
 -- no more bytes are skipped than there are
 pub skips_within : (last : Bool) (bs : List ℕ) → skips last bs ≤ length bs

@@ -38,11 +38,12 @@ fn is_passed(part: &[u8], at: usize, last: bool) -> bool
 fn next_place(part: &[u8], at: usize, last: bool) -> usize
     ensures { result ≡ at + skips last (drop at part.now) }
 {
-    let mut p = at;
-    while p < part.len() && is_passed(part, p, last) {
-        p += 1;
+    for p in at..part.len() {
+        if !is_passed(part, p, last) {
+            return p;
+        }
     }
-    p
+    at.max(part.len())
 }
 
 // The stretch that begins at the place `at`: a record that is kept, or the bytes up to the next one or the

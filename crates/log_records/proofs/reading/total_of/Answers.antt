@@ -1,18 +1,17 @@
 -- `log_records::reading::total_of` meets its contract: each turn adds one byte more. Assumes nothing.
+use mathlib.Core.Path.{◌∙◌}
 use native.Mathlib.Omega.{arith}
-use Rattle.log_records.proofs.Sums.{added_none, added_next, added_done}
+use lib.ListN.{drop, length-take, length-drop}
+use lib.Seq.{get_or-take, get_or-drop}
+use Rattle.log_records.proofs.Sums.{added_none, added_next}
 use Rattle.log_records.proofs.reading.total_of.Goals as goal
 
-pub loop-k-init : goal.loop-k-init
-loop-k-init c = (omega arith, added_none _ _)
+pub loop-byte-init : goal.loop-byte-init
+loop-byte-init c = added_none _ _
 
-pub overflow_add-sum : goal.overflow_add-sum
-overflow_add-sum c = omega (arith, c.loop-k.invariant.1.most)
-
-pub loop-k-preserved : goal.loop-k-preserved
-loop-k-preserved c = let l = c.loop-k in
-    (omega arith, added_next _ _ _ l.k _ l.invariant.1 (omega arith) c.wide-sum.ensures.0 c.wide-sum.ensures.1)
-
-pub returns : goal.returns
-returns c = let l = c.loop-k in
-    added_done _ _ _ _ _ l.invariant.1 (omega arith)
+pub loop-byte-preserved : goal.loop-byte-preserved
+loop-byte-preserved c = let l = c.loop-byte in
+    let bs = c.args.bytes.now in
+    let from = c.args.from in
+    added_next _ _ _ l.byte-index _ l.invariant (omega arith) (c.from-sum.ensures ∙ get_or-take _ (drop from bs) l.byte-index 0 (omega arith) ∙ get_or-drop from bs l.byte-index 0)
+    (omega arith)
