@@ -9,15 +9,6 @@ use printer::{front_of, put_byte, put_bytes, put_decimal};
 use script::values::{Values, count_at, number_at};
 use text::glyph_of;
 
-// The place behind so many bytes.
-pub fn behind(start: usize, n: usize) -> usize {
-    if n <= usize::MAX - start {
-        start + n
-    } else {
-        usize::MAX
-    }
-}
-
 // The two digits of a byte.
 fn put_digits(out: &mut [u8], at: usize, byte: u8) -> usize {
     let p = put_byte(out, at, glyph_of((byte / 16) as u64));
@@ -75,7 +66,7 @@ fn put_read(out: &mut [u8], log: &[u8], record: Record) -> usize {
         p3,
         log,
         record.from,
-        behind(record.from, record.length),
+        record.from.saturating_add(record.length),
     );
     let p5 = or_dash(out, p3, p4);
     let p6 = put_byte(out, p5, 32);
@@ -118,39 +109,43 @@ fn put_listed(out: &mut [u8], at: usize, stretch: Stretch) -> usize {
 // The bytes of a stretch that is kept.
 fn put_kept(out: &mut [u8], at: usize, log: &[u8], stretch: Stretch) -> usize {
     match stretch {
-        Stretch::Kept { start, length } => put_hexes(out, at, log, start, behind(start, length)),
+        Stretch::Kept { start, length } => put_hexes(
+            out,
+            at,
+            log,
+            start,
+            start.saturating_add(length),
+        ),
         Stretch::Skipped { .. } => at,
     }
-}
-
-// A stretch in words, or its bytes where it is kept.
-fn put_stretch(out: &mut [u8], at: usize, log: &[u8], stretch: Stretch, listed: bool) -> usize {
-    if listed {
-        return put_listed(out, at, stretch);
-    }
-    put_kept(out, at, log, stretch)
 }
 
 // Where the next stretch begins.
 fn next_of(stretch: Stretch) -> usize {
     match stretch {
-        Stretch::Skipped { start, length } | Stretch::Kept { start, length } => behind(
-            start, length,
-        ),
+        Stretch::Skipped { start, length } | Stretch::Kept { start, length } => {
+            start.saturating_add(length)
+        }
     }
 }
 
-// Every stretch in words, or the bytes of those that are kept. A log has no more stretches than bytes.
-fn put_walk(out: &mut [u8], at: usize, log: &[u8], listed: bool) -> usize {
+// What `put` puts of every stretch, or a `-`. A log has no more stretches than bytes.
+fn put_walk<F: Fn(&mut [u8], usize, Stretch) -> usize>(
+    out: &mut [u8],
+    at: usize,
+    log: &[u8],
+    put: F,
+) -> usize
+    requires { F.IsAlwaysCallable put }
+{
     let mut p = at;
     let mut place = 0;
-    let mut turns = log.len();
-    while turns > 0
-        && let Some(stretch) = next_stretch(log, place, true)
-    {
-        p = put_stretch(out, p, log, stretch, listed);
+    for _ in 0..log.len() {
+        let Some(stretch) = next_stretch(log, place, true) else {
+            break;
+        };
+        p = put(out, p, stretch);
         place = next_of(stretch);
-        turns -= 1;
     }
     or_dash(out, at, p)
 }
@@ -158,8 +153,19 @@ fn put_walk(out: &mut [u8], at: usize, log: &[u8], listed: bool) -> usize {
 // What salvage lists, and then what it keeps.
 pub fn salvage(out: &mut [u8], values: Values, bytes: &[u8]) -> usize {
     let n = front_of(bytes, count_at(values, 0));
+    let log = &bytes[..n];
     let p1 = put_bytes(out, 0, b"ok ");
-    let p2 = put_walk(out, p1, &bytes[..n], true);
+    let p2 = put_walk(
+        out,
+        p1,
+        log,
+        |out: &mut [u8], at, stretch| put_listed(out, at, stretch),
+    );
     let p3 = put_byte(out, p2, 32);
-    put_walk(out, p3, &bytes[..n], false)
+    put_walk(
+        out,
+        p3,
+        log,
+        |out: &mut [u8], at, stretch| put_kept(out, at, log, stretch),
+    )
 }

@@ -4,7 +4,6 @@ use crate::texts::{put_end, put_line, put_total};
 use lines::{End, Line};
 use log_records::{Record, read_record};
 use log_salvage::{Stretch, next_stretch};
-use log_words::behind;
 use printer::{front_of, put_byte, put_bytes};
 use script::values::{Values, count_at};
 use sheets::{Sheet, Told, Turn, end_log, new_sheet, take_record};
@@ -69,9 +68,7 @@ fn judged(sheet: Sheet, log: &[u8], record: Record) -> Turn {
 }
 
 fn stopped(w: Walk) -> Walk {
-    let mut then = w;
-    then.reads = false;
-    then
+    Walk { reads: false, ..w }
 }
 
 // The record at the place.
@@ -84,16 +81,14 @@ fn recorded(out: &mut [u8], w: Walk, log: &[u8]) -> Walk {
 }
 
 fn at_place(w: Walk, place: usize) -> Walk {
-    let mut then = w;
-    then.place = place;
-    then
+    Walk { place, ..w }
 }
 
 // One stretch further.
 fn walked(out: &mut [u8], w: Walk, log: &[u8]) -> Walk {
     match next_stretch(log, w.place, true) {
         Some(Stretch::Kept { .. }) => recorded(out, w, log),
-        Some(Stretch::Skipped { start, length }) => at_place(w, behind(start, length)),
+        Some(Stretch::Skipped { start, length }) => at_place(w, start.saturating_add(length)),
         None => at_place(w, usize::MAX),
     }
 }
@@ -105,21 +100,22 @@ fn goes_on(w: Walk, log: &[u8]) -> bool {
 // A log's records. It has no more stretches than bytes.
 fn put_records(out: &mut [u8], before: Walk, log: &[u8]) -> Walk {
     let mut w = before;
-    let mut going = true;
-    let mut turns = log.len();
-    while turns > 0 && going {
+    for _ in 0..log.len() {
         w = walked(out, w, log);
-        going = goes_on(w, log);
-        turns -= 1;
+        if !goes_on(w, log) {
+            break;
+        }
     }
     w
 }
 
 // A log, from its first byte, and its end where it was read so far.
 fn put_log(out: &mut [u8], before: Walk, log: &[u8]) -> Walk {
-    let mut first = before;
-    first.place = 0;
-    first.reads = true;
+    let first = Walk {
+        place: 0,
+        reads: true,
+        ..before
+    };
     let w = put_records(out, first, log);
     let sheet = w.sheet;
     if w.reads {
@@ -130,10 +126,10 @@ fn put_log(out: &mut [u8], before: Walk, log: &[u8]) -> Walk {
 
 // The place where the log number k ends.
 fn end_of(ends: &[f64], k: usize) -> usize {
-    if k < ends.len() {
-        return text::bits_of(ends[k]) as usize;
+    match ends.get(k) {
+        Some(end) => text::bits_of(*end) as usize,
+        None => 0,
     }
-    0
 }
 
 // The log number k, which begins where the one before it ends.
