@@ -80,127 +80,115 @@ fn write_line(sys: &mut System, log: Fd, p: PassLine) -> bool {
     sys.write_all(log, &text[..k])
 }
 
-// A figure: the log has its bits too.
-fn put_figure(out: &mut [u8], at: usize, x: f64, log: bool) -> usize {
-    if log {
-        return put_with_bits(out, at, x);
-    }
-    put_number(out, at, x)
+// Who reads a comparison: the operator, to whom the program names itself, or a reader of the log, which has the
+// bits of each figure too.
+#[derive(Clone, Copy)]
+enum Reader {
+    Operator,
+    Log,
 }
 
-// A number of samples, and what it is in seconds and in metres of light path where the rate is known.
-fn put_figures(out: &mut [u8], at: usize, x: f64, rate: u64, log: bool) -> usize {
-    let samples = put_figure(out, at, x, log);
-    let named = put_bytes(out, samples, b" samples");
-    if rate == 0 {
-        return named;
+impl Reader {
+    fn put_start(self, out: &mut [u8]) -> usize {
+        match self {
+            Reader::Operator => put_bytes(out, 0, b"resample: "),
+            Reader::Log => 0,
+        }
     }
-    let time = x / std::num::nearest_u64_to_f64(rate);
-    let comma = put_bytes(out, named, b", ");
-    let seconds = put_figure(out, comma, time, log);
-    let second = put_bytes(out, seconds, b" seconds, ");
-    let metres = put_figure(out, second, time * 299792458.0, log);
-    put_bytes(out, metres, b" metres of light path")
+
+    fn put_figure(self, out: &mut [u8], at: usize, x: f64) -> usize {
+        match self {
+            Reader::Operator => put_number(out, at, x),
+            Reader::Log => put_with_bits(out, at, x),
+        }
+    }
 }
 
-// What stands before a line for the operator.
-fn put_start(out: &mut [u8], log: bool) -> usize {
-    if log {
-        return 0;
-    }
-    put_bytes(out, 0, b"resample: ")
-}
-
-// A line of the comparison: its name, its figures, and what is to be said of them.
-fn write_figures(
-    sys: &mut System,
+// Where a comparison goes, who reads it, and the input's rate where it is known.
+#[derive(Clone, Copy)]
+struct Comparison {
     fd: Fd,
-    name: &[u8],
-    x: f64,
-    more: &[u8],
-    rate: u64,
-    log: bool,
-) -> bool {
-    let mut text = [0u8; 512];
-    let start = put_start(&mut text, log);
-    let named = put_bytes(&mut text, start, name);
-    let figures = put_figures(&mut text, named, x, rate, log);
-    let said = put_bytes(&mut text, figures, more);
-    let n = put_bytes(&mut text, said, b"\n");
-    let k = front_of(&text, n);
-    sys.write_all(fd, &text[..k])
+    reader: Reader,
+    rate: Option<u64>,
 }
 
-fn write_bound(sys: &mut System, fd: Fd, l: Line, rate: u64, log: bool) -> bool {
-    let x = samples_in(l.most);
-    let name = b"the proved bound: ";
-    if is_inside(l) {
-        return write_figures(
-            sys,
-            fd,
-            name,
-            x,
-            b", and the distance is inside it",
-            rate,
-            log,
-        );
+impl Comparison {
+    // A number of samples, and what it is in seconds and in metres of light path where the rate is known.
+    fn put_figures(self, out: &mut [u8], at: usize, x: f64) -> usize {
+        let samples = self.reader.put_figure(out, at, x);
+        let named = put_bytes(out, samples, b" samples");
+        let Some(rate) = self.rate else {
+            return named;
+        };
+        let time = x / std::num::nearest_u64_to_f64(rate);
+        let comma = put_bytes(out, named, b", ");
+        let seconds = self.reader.put_figure(out, comma, time);
+        let second = put_bytes(out, seconds, b" seconds, ");
+        let metres = self.reader.put_figure(out, second, time * 299792458.0);
+        put_bytes(out, metres, b" metres of light path")
     }
-    write_figures(
-        sys,
-        fd,
-        name,
-        x,
-        b", and the distance is NOT inside it",
-        rate,
-        log,
-    )
-}
 
-fn write_rounding(sys: &mut System, fd: Fd, p: PassLine, rate: u64, log: bool) -> bool {
-    let mut more = [0u8; 128];
-    let n = forms::put_form(
-        &mut more,
-        b" (# blocks with a ramp pending, of # frames, left out)",
-        &[p.ramp_blocks, p.ramp_frames],
-    );
-    let k = front_of(&more, n);
-    write_figures(
-        sys,
-        fd,
-        b"the rounding of 1/ratio: ",
-        p.rounding,
-        &more[..k],
-        rate,
-        log,
-    )
-}
+    // A line: its name, its figures, and what is to be said of them.
+    fn write_figures(self, sys: &mut System, name: &[u8], x: f64, more: &[u8]) -> bool {
+        let mut text = [0u8; 512];
+        let start = self.reader.put_start(&mut text);
+        let named = put_bytes(&mut text, start, name);
+        let figures = self.put_figures(&mut text, named, x);
+        let said = put_bytes(&mut text, figures, more);
+        let n = put_bytes(&mut text, said, b"\n");
+        let k = front_of(&text, n);
+        sys.write_all(self.fd, &text[..k])
+    }
 
-// What the pass is off by, what it may be off by, and what it would be off by for other reasons.
-fn write_comparison(sys: &mut System, fd: Fd, p: PassLine, rate: u64, log: bool) -> bool {
-    let l = p.line;
-    let distance = samples_in(distance_of(l));
-    let way = samples_in(positions::distance(l.exactly, p.start));
-    let a = write_figures(
-        sys,
-        fd,
-        b"the running sum's distance: ",
-        distance,
-        b"",
-        rate,
-        log,
-    );
-    let b = write_bound(sys, fd, l, rate, log);
-    let c = write_rounding(sys, fd, p, rate, log);
-    let clock = b"one part in 10^9 of the clock: ";
-    let d = write_figures(sys, fd, clock, way / 1000000000.0, b"", rate, log);
-    a & b & c & d
+    fn write_bound(self, sys: &mut System, l: Line) -> bool {
+        let x = samples_in(l.most);
+        let name = b"the proved bound: ";
+        if is_inside(l) {
+            return self.write_figures(sys, name, x, b", and the distance is inside it");
+        }
+        self.write_figures(sys, name, x, b", and the distance is NOT inside it")
+    }
+
+    fn write_rounding(self, sys: &mut System, p: PassLine) -> bool {
+        let mut more = [0u8; 128];
+        let n = forms::put_form(
+            &mut more,
+            b" (# blocks with a ramp pending, of # frames, left out)",
+            &[p.ramp_blocks, p.ramp_frames],
+        );
+        let k = front_of(&more, n);
+        self.write_figures(sys, b"the rounding of 1/ratio: ", p.rounding, &more[..k])
+    }
+
+    // What the pass is off by, what it may be off by, and what it would be off by for other reasons.
+    fn write(self, sys: &mut System, p: PassLine) -> bool {
+        let l = p.line;
+        let distance = samples_in(distance_of(l));
+        let way = samples_in(positions::distance(l.exactly, p.start));
+        let a = self.write_figures(sys, b"the running sum's distance: ", distance, b"");
+        let b = self.write_bound(sys, l);
+        let c = self.write_rounding(sys, p);
+        let clock = b"one part in 10^9 of the clock: ";
+        let d = self.write_figures(sys, clock, way / 1000000000.0, b"");
+        a & b & c & d
+    }
 }
 
 // Tells the line of a pass at its end; the rate is the input's, 0 where it is not known. Whether the log took it.
 pub fn tell_line(sys: &mut System, log: Fd, log_file: bool, p: PassLine, rate: u64) -> bool {
+    let to_log = Comparison {
+        fd: log,
+        reader: Reader::Log,
+        rate: (rate > 0).then_some(rate),
+    };
     if log_file {
-        write_comparison(sys, system::ERROR, p, rate, false);
+        let to_operator = Comparison {
+            fd: system::ERROR,
+            reader: Reader::Operator,
+            ..to_log
+        };
+        to_operator.write(sys, p);
     }
     let line = write_line(sys, log, p);
-    line & write_comparison(sys, log, p, rate, true)
+    line & to_log.write(sys, p)
 }
