@@ -1,17 +1,18 @@
 // One line of the call script: its command, and the numbers of its other words.
 use crate::reader::{Input, Word, no_word, read_word};
 use crate::values::Values;
-use crate::words::{Command, begins_sinc, command_of, kinds_of, value_of};
+use crate::words::{Command, Takes, begins_sinc, command_of, takes_of, value_of};
 use system::System;
 
-// A line that is being read: the name of its command, the kinds of the words that are still to come,
-// and the numbers of the words after the command, in `count` places, all of them right where `good` is true.
-// `more` says that another word follows, and `over` that the input had no line any more.
+// A line that is being read: its command, how many of the words behind it were read, whether these have the
+// `s` of a sinc, and their numbers, in `count` places, all of them right where `good` is true. `more` says that
+// another word follows, and `over` that the input had no line any more.
 #[derive(Clone, Copy)]
 pub struct Line {
     pub input: Input,
-    pub name: u64,
-    pub kinds: u64,
+    pub command: Command,
+    pub read: usize,
+    pub sinc: bool,
     pub count: usize,
     pub values: Values,
     pub good: bool,
@@ -19,35 +20,26 @@ pub struct Line {
     pub over: bool,
 }
 
-// The kinds of the words that are still to come behind the first. Behind the `s` of a sinc these are its
-// points, factor and blend, and then the others, for which every command leaves room.
-fn kinds_behind(kinds: u64, sinc: bool) -> u64 {
-    let rest = kinds / 16;
-    if !sinc {
-        return rest;
-    }
-    if rest < 0x10_0000_0000_0000 {
-        return rest * 4096 + 0xadd;
-    }
-    0
+// What the next word has to be; nothing where none is taken any more.
+fn next_of(line: Line) -> Option<Takes> {
+    takes_of(line.command, line.sinc).get(line.read).copied()
 }
 
 // The line with one word more. An L has the four places that a sinc takes.
-fn with(line: Line, word: Word) -> Line {
-    let input = word.input;
+fn with(line: Line, takes: Option<Takes>, word: Word) -> Line {
     let k = line.count;
-    let kind = line.kinds % 16;
-    let number = value_of(kind, word);
-    let sinc = begins_sinc(kind, word);
+    let sinc = begins_sinc(takes, word);
     let mut then = line;
-    then.input = input;
-    then.kinds = kinds_behind(line.kinds, sinc);
-    then.more = input.byte != 10;
+    then.input = word.input;
+    then.read = line.read.saturating_add(1);
+    then.sinc = line.sinc | sinc;
+    then.more = word.input.byte != b'\n';
     then.good = false;
-    if let Some(n) = number {
+    if let Some(n) = value_of(takes, word) {
         if k < 16 {
+            let places = if takes == Some(Takes::Kind) && !sinc { 4 } else { 1 };
             then.values[k] = n;
-            then.count = if (kind == 11) & !sinc { k + 4 } else { k + 1 };
+            then.count = k + places;
             then.good = line.good;
         }
     }
@@ -57,18 +49,15 @@ fn with(line: Line, word: Word) -> Line {
 // The line with one log more, of which any number may follow: the first value is how many there are, the
 // second how many bytes they have, and where each ends is kept as the bits of a sample.
 fn with_log(line: Line, word: Word, ends: &mut [f64]) -> Line {
-    let input = word.input;
-    let values = line.values;
-    let k = values[0] as usize;
-    let number = value_of(15, word);
+    let k = line.values[0] as usize;
     let mut then = line;
-    then.input = input;
-    then.more = input.byte != 10;
+    then.input = word.input;
+    then.more = word.input.byte != b'\n';
     then.good = false;
-    if let Some(end) = number {
+    if let Some(end) = value_of(Some(Takes::Logs), word) {
         if k < ends.len() {
             ends[k] = text::of_bits(end);
-            then.values[0] = values[0] + 1;
+            then.values[0] = line.values[0] + 1;
             then.values[1] = end;
             then.good = line.good;
         }
@@ -86,33 +75,37 @@ fn read_next(
     output: &mut [f64],
     bytes: &mut [u8],
 ) -> Line {
-    let from = line.input;
-    let kind = line.kinds % 16;
-    let values = line.values;
-    let before = if kind == 15 { values[1] } else { 0 };
-    let word = no_word(from, kind >= 14, before as usize);
-    if kind == 15 {
-        return with_log(line, read_word(sys, buf, output, input, bytes, word), input);
+    let takes = next_of(line);
+    match takes {
+        Some(Takes::Logs) => {
+            let word = no_word(line.input, true, line.values[1] as usize);
+            with_log(line, read_word(sys, buf, output, input, bytes, word), input)
+        }
+        Some(Takes::Output) => {
+            let word = no_word(line.input, false, 0);
+            with(line, takes, read_word(sys, buf, output, input, bytes, word))
+        }
+        _ => {
+            let word = no_word(line.input, takes == Some(Takes::Bytes), 0);
+            with(line, takes, read_word(sys, buf, input, output, bytes, word))
+        }
     }
-    if kind == 9 {
-        return with(line, read_word(sys, buf, output, input, bytes, word));
-    }
-    with(line, read_word(sys, buf, input, output, bytes, word))
 }
 
 // The line after its first word. It is none where that is empty and nothing can follow.
 fn begun(word: Word) -> Line {
-    let input = word.input;
     let name = word.name;
+    let text = name.text();
     Line {
-        input,
-        name,
-        kinds: kinds_of(name),
+        input: word.input,
+        command: command_of(text),
+        read: 0,
+        sinc: false,
         count: 0,
         values: [0; 16],
-        good: input.byte != 58,
-        more: input.byte != 10,
-        over: (name == 1) & !input.open,
+        good: word.input.byte != b':',
+        more: word.input.byte != b'\n',
+        over: text.is_empty() && !word.input.open,
     }
 }
 
@@ -126,12 +119,11 @@ pub fn read_line(
     bytes: &mut [u8],
 ) -> Line {
     let mut line = begun(read_word(sys, buf, input, output, bytes, no_word(before, false, 0)));
-    let mut more = line.more;
-    let mut turns = u64::MAX;
-    while turns > 0 && more {
+    for _ in 0..u64::MAX {
+        if !line.more {
+            break;
+        }
         line = read_next(sys, line, buf, input, output, bytes);
-        more = line.more;
-        turns -= 1;
     }
     line
 }
@@ -141,10 +133,10 @@ pub fn command_in(line: Line) -> Command {
     if line.over {
         return Command::Over;
     }
-    let values = line.values;
-    let logs = (line.kinds == 15) & (values[0] > 0);
-    if line.good & ((line.kinds == 0) | logs) {
-        return command_of(line.name);
+    let takes = takes_of(line.command, line.sinc);
+    let logs = next_of(line) == Some(Takes::Logs) && line.values[0] > 0;
+    if line.good && (line.read == takes.len() || logs) {
+        return line.command;
     }
     Command::Unknown
 }

@@ -1,17 +1,31 @@
-// A short word as a number. Up to seven bytes stand behind a 1; eight stand alone, and their first byte, 2
-// or above, tells them from those. 0 is a word that is longer or begins otherwise, and stays so.
-pub fn name_step(name: u64, byte: u8) -> u64 {
-    if name == 0 {
-        return 0;
+// The bytes of a short word. No name has more than eight, so the first nine tell a longer word from each.
+const MOST: usize = 9;
+
+#[derive(Clone, Copy)]
+pub struct Name {
+    bytes: [u8; MOST],
+    len: usize,
+}
+
+impl Name {
+    pub fn empty() -> Name {
+        Name {
+            bytes: [0; MOST],
+            len: 0,
+        }
     }
-    if name < 0x100_0000_0000_0000 {
-        return name * 256 + byte as u64;
+
+    // With a byte more of the word.
+    pub fn with(self, byte: u8) -> Name {
+        let mut longer = self;
+        if self.len < MOST {
+            longer.bytes[self.len] = byte;
+            longer.len = self.len + 1;
+        }
+        longer
     }
-    if name < 0x102_0000_0000_0000 {
-        return 0;
+
+    pub fn text(&self) -> &[u8] {
+        &self.bytes[..self.len.min(MOST)]
     }
-    if name < 0x200_0000_0000_0000 {
-        return (name - 0x100_0000_0000_0000) * 256 + byte as u64;
-    }
-    0
 }

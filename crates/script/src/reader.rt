@@ -1,6 +1,6 @@
 // Standard input, byte by byte, through a buffer that the caller lends; and its words.
 use crate::bytes::{Bytes, begin_bytes, bytes_step};
-use crate::names::name_step;
+use crate::names::Name;
 use system::System;
 use text::{Area, Run};
 
@@ -19,7 +19,7 @@ pub struct Input {
 #[derive(Clone, Copy)]
 pub struct Word {
     pub input: Input,
-    pub name: u64,
+    pub name: Name,
     pub whole: Option<Run>,
     pub bits: Option<Run>,
     pub area: Area,
@@ -85,7 +85,7 @@ pub fn no_word(input: Input, wanted: bool, before: usize) -> Word {
     let bytes = begin_bytes(wanted, before);
     Word {
         input,
-        name: 1,
+        name: Name::empty(),
         whole: none,
         bits: none,
         area: Area::Start,
@@ -126,61 +126,23 @@ fn area_after(read: Area, begins: bool) -> Area {
     read
 }
 
-// One byte more of a word.
-fn word_step(
-    area: &mut [f64],
-    next: &mut [f64],
-    bytes: &mut [u8],
-    word: Word,
-    input: Input,
-) -> Word {
-    let byte = input.byte;
-    let whole = word.whole;
-    let bits = word.bits;
-    let read = word.area;
-    let hexes = word.bytes;
-    let whole_then = text::decimal_step(whole, byte);
-    let bits_then = text::hex_step(bits, byte);
-    let read_then = area_step(area, next, word.first, read, byte);
-    let first = first_after(area, word.first, read_then);
-    let area_then = area_after(read_then, first > word.first);
-    let bytes_then = bytes_step(bytes, hexes, byte);
+// One byte more of a word, the last that was read.
+fn word_step(area: &mut [f64], next: &mut [f64], bytes: &mut [u8], word: Word) -> Word {
+    let byte = word.input.byte;
+    let read = area_step(area, next, word.first, word.area, byte);
+    let first = first_after(area, word.first, read);
     Word {
-        input,
-        name: name_step(word.name, byte),
-        whole: whole_then,
-        bits: bits_then,
-        area: area_then,
+        input: word.input,
+        name: word.name.with(byte),
+        whole: text::decimal_step(word.whole, byte),
+        bits: text::hex_step(word.bits, byte),
+        area: area_after(read, first > word.first),
         first,
-        bytes: bytes_then,
+        bytes: bytes_step(bytes, word.bytes, byte),
     }
 }
 
-// One byte more, which may end the word.
-fn word_next(
-    sys: &mut System,
-    buf: &mut [u8],
-    area: &mut [f64],
-    next: &mut [f64],
-    bytes: &mut [u8],
-    word: Word,
-) -> Word {
-    let before = word.input;
-    let input = read_byte(sys, buf, before);
-    if ends_word(input.byte) {
-        let mut then = word;
-        then.input = input;
-        return then;
-    }
-    word_step(area, next, bytes, word, input)
-}
-
-fn is_going(word: Word) -> bool {
-    let input = word.input;
-    !ends_word(input.byte)
-}
-
-// Nothing says that a word ends, so the turns are counted down from a number that no run uses up.
+// Reads a word to its end. Nothing says that it ends, so it may have as many bytes as can be counted.
 pub fn read_word(
     sys: &mut System,
     buf: &mut [u8],
@@ -190,12 +152,12 @@ pub fn read_word(
     begun: Word,
 ) -> Word {
     let mut word = begun;
-    let mut going = true;
-    let mut turns = u64::MAX;
-    while turns > 0 && going {
-        word = word_next(sys, buf, area, next, bytes, word);
-        going = is_going(word);
-        turns -= 1;
+    for _ in 0..u64::MAX {
+        word.input = read_byte(sys, buf, word.input);
+        if ends_word(word.input.byte) {
+            return word;
+        }
+        word = word_step(area, next, bytes, word);
     }
     word
 }

@@ -1,7 +1,6 @@
 // The words of the call script: which commands there are, and what each takes.
 use crate::bytes::bytes_done;
 use crate::reader::Word;
-use text::Area;
 
 #[derive(Clone, Copy)]
 pub enum Command {
@@ -44,208 +43,276 @@ pub enum Command {
     Over,
 }
 
-// A name is its bytes after a 1; one of eight bytes has no 1.
-pub fn command_of(name: u64) -> Command {
+// What a word behind a command has to be.
+#[derive(Clone, Copy, PartialEq, Eq)]
+pub enum Takes {
+    // The 16 digits of a float.
+    Float,
+    Whole,
+    // L, which is 1, 2, 4, 6 or 8.
+    Length,
+    // `in` or `out`.
+    Side,
+    // `0` or `1`.
+    Flag,
+    // A number of grid points, 1 to 4.
+    Grid,
+    Window,
+    Area,
+    // The output of a block, an area that is kept apart.
+    Output,
+    Blend,
+    // L, or the `s` of a sinc and a colon.
+    Kind,
+    // An area that may be as long as two.
+    Table,
+    // A whole number and a colon.
+    Before,
+    Bytes,
+    // Bytes in one word or more, one behind the other.
+    Logs,
+}
+
+pub fn command_of(name: &[u8]) -> Command {
     match name {
-        0x1_6e6577 => Command::New,
-        0x1_6e657773696e63 => Command::NewSinc,
-        0x1_726563 => Command::Rec,
-        0x1_73657461726561 => Command::SetArea,
-        0x73657474_61626c65 => Command::SetTable,
-        0x1_61726561 => Command::Area,
-        0x1_616273 => Command::Abs,
-        0x1_72656c => Command::Rel,
-        0x1_6368756e6b => Command::Chunk,
-        0x1_7265736574 => Command::Reset,
-        0x1_626c6f636b => Command::Block,
-        0x1_71 => Command::Q,
-        0x1_7374657073 => Command::Steps,
-        0x1_717374657073 => Command::QSteps,
-        0x1_6b => Command::K,
-        0x1_736c696e => Command::SLin,
-        0x1_7371756164 => Command::SQuad,
-        0x1_736375626963 => Command::SCubic,
-        0x1_776c696e => Command::WLin,
-        0x1_7771756164 => Command::WQuad,
-        0x1_776375626963 => Command::WCubic,
-        0x1_6e656172 => Command::Near,
-        0x1_6375746f6666 => Command::Cutoff,
-        0x1_636f73696e65 => Command::Cosine,
-        0x1_73696e65 => Command::Sine,
-        0x1_77696e646f77 => Command::Window,
-        0x1_73696e6373 => Command::Sincs,
-        0x1_6c6f67707574 => Command::LogPut,
-        0x1_6c6f6772656164 => Command::LogRead,
-        0x1_73616c76616765 => Command::Salvage,
-        0x1_7368656574 => Command::Sheet,
-        0x1_6c696e65 => Command::Line,
-        0x1_6c6976656c6f67 => Command::LiveLog,
+        b"new" => Command::New,
+        b"newsinc" => Command::NewSinc,
+        b"rec" => Command::Rec,
+        b"setarea" => Command::SetArea,
+        b"settable" => Command::SetTable,
+        b"area" => Command::Area,
+        b"abs" => Command::Abs,
+        b"rel" => Command::Rel,
+        b"chunk" => Command::Chunk,
+        b"reset" => Command::Reset,
+        b"block" => Command::Block,
+        b"q" => Command::Q,
+        b"steps" => Command::Steps,
+        b"qsteps" => Command::QSteps,
+        b"k" => Command::K,
+        b"slin" => Command::SLin,
+        b"squad" => Command::SQuad,
+        b"scubic" => Command::SCubic,
+        b"wlin" => Command::WLin,
+        b"wquad" => Command::WQuad,
+        b"wcubic" => Command::WCubic,
+        b"near" => Command::Near,
+        b"cutoff" => Command::Cutoff,
+        b"cosine" => Command::Cosine,
+        b"sine" => Command::Sine,
+        b"window" => Command::Window,
+        b"sincs" => Command::Sincs,
+        b"logput" => Command::LogPut,
+        b"logread" => Command::LogRead,
+        b"salvage" => Command::Salvage,
+        b"sheet" => Command::Sheet,
+        b"line" => Command::Line,
+        b"livelog" => Command::LiveLog,
         _ => Command::Unknown,
     }
 }
 
-// The words after a command, a hex digit for the kind of each, the last digit for the first word:
-// 1 the 16 digits of a float; 2 a whole number; 3 L, which is 1, 2, 4, 6 or 8; 4 `in` or `out`;
-// 5 `0` or `1`; 6 a number of grid points, 1 to 4; 7 a window; 8 an area; 9 the output of a block,
-// an area that is kept apart; 10 a blend; 11 L, or the `s` of a sinc and a colon; 12 a table, an area that
-// may be as long as two; 13 a whole number and a colon; 14 bytes; 15 bytes in one word or
-// more, one behind the other. Behind the last word stands 0.
-pub fn kinds_of(name: u64) -> u64 {
-    match name {
-        // new r m L chunk channels in|out
-        0x1_6e6577 => 0x422311,
-        // newsinc r m points factor blend chunk channels in|out
-        0x1_6e657773696e63 => 0x422a2211,
-        // rec L in|out channels chunk construction-chunk original current target m index fill needed-in
-        // needed-out
-        0x1_726563 => 0x222111112224b,
-        // setarea AREA
-        0x1_73657461726561 => 8,
-        // settable AREA
-        0x73657474_61626c65 => 12,
+// rec L in|out channels chunk construction-chunk original current target m index fill needed-in needed-out
+const REC: [Takes; 13] = [
+    Takes::Kind,
+    Takes::Side,
+    Takes::Whole,
+    Takes::Whole,
+    Takes::Whole,
+    Takes::Float,
+    Takes::Float,
+    Takes::Float,
+    Takes::Float,
+    Takes::Float,
+    Takes::Whole,
+    Takes::Whole,
+    Takes::Whole,
+];
+
+// The same of a sinc: behind its `s` stand its points, factor and blend.
+const REC_SINC: [Takes; 16] = [
+    Takes::Kind,
+    Takes::Before,
+    Takes::Before,
+    Takes::Blend,
+    Takes::Side,
+    Takes::Whole,
+    Takes::Whole,
+    Takes::Whole,
+    Takes::Float,
+    Takes::Float,
+    Takes::Float,
+    Takes::Float,
+    Takes::Float,
+    Takes::Whole,
+    Takes::Whole,
+    Takes::Whole,
+];
+
+// new r m L chunk channels in|out
+const NEW: [Takes; 6] = [
+    Takes::Float,
+    Takes::Float,
+    Takes::Length,
+    Takes::Whole,
+    Takes::Whole,
+    Takes::Side,
+];
+
+// newsinc r m points factor blend chunk channels in|out
+const NEW_SINC: [Takes; 8] = [
+    Takes::Float,
+    Takes::Float,
+    Takes::Whole,
+    Takes::Whole,
+    Takes::Blend,
+    Takes::Whole,
+    Takes::Whole,
+    Takes::Side,
+];
+
+// The words behind a command; `sinc` where the `s` of one was read.
+pub fn takes_of(command: Command, sinc: bool) -> &'static [Takes] {
+    match command {
+        Command::New => &NEW,
+        Command::NewSinc => &NEW_SINC,
+        Command::Rec if sinc => &REC_SINC,
+        Command::Rec => &REC,
+        Command::SetArea => &[Takes::Area],
+        Command::SetTable => &[Takes::Table],
         // abs r 0|1, rel r 0|1
-        0x1_616273 => 0x51,
-        0x1_72656c => 0x51,
-        // chunk n
-        0x1_6368756e6b => 2,
+        Command::Abs | Command::Rel => &[Takes::Float, Takes::Flag],
+        Command::Chunk => &[Takes::Whole],
         // steps now then
-        0x1_7374657073 => 0x11,
+        Command::Steps => &[Takes::Float, Takes::Float],
         // block count mask IN OUT
-        0x1_626c6f636b => 0x9822,
+        Command::Block => &[Takes::Whole, Takes::Whole, Takes::Area, Takes::Output],
         // k L x AREA
-        0x1_6b => 0x813,
+        Command::K => &[Takes::Length, Takes::Float, Takes::Area],
         // slin x AREA, squad x AREA, scubic x AREA
-        0x1_736c696e => 0x81,
-        0x1_7371756164 => 0x81,
-        0x1_736375626963 => 0x81,
-        // wlin x, wquad x, wcubic x
-        0x1_776c696e => 1,
-        0x1_7771756164 => 1,
-        0x1_776375626963 => 1,
+        Command::SLin | Command::SQuad | Command::SCubic => &[Takes::Float, Takes::Area],
+        Command::WLin | Command::WQuad | Command::WCubic => &[Takes::Float],
         // near n t factor
-        0x1_6e656172 => 0x216,
+        Command::Near => &[Takes::Grid, Takes::Float, Takes::Whole],
         // cutoff n window, window n window
-        0x1_6375746f6666 => 0x72,
-        0x1_77696e646f77 => 0x72,
-        // cosine k, sine k
-        0x1_636f73696e65 => 1,
-        0x1_73696e65 => 1,
+        Command::Cutoff | Command::Window => &[Takes::Whole, Takes::Window],
+        Command::Cosine | Command::Sine => &[Takes::Float],
         // sincs points factor cutoff window
-        0x1_73696e6373 => 0x7122,
+        Command::Sincs => &[Takes::Whole, Takes::Whole, Takes::Float, Takes::Window],
         // logput kind BYTES room
-        0x1_6c6f67707574 => 0x2e2,
+        Command::LogPut => &[Takes::Whole, Takes::Bytes, Takes::Whole],
         // logread at BYTES
-        0x1_6c6f6772656164 => 0xe2,
-        // salvage BYTES
-        0x1_73616c76616765 => 14,
+        Command::LogRead => &[Takes::Whole, Takes::Bytes],
+        Command::Salvage => &[Takes::Bytes],
         // sheet LOG LOG ..
-        0x1_7368656574 => 15,
-        _ => 0,
+        Command::Sheet => &[Takes::Logs],
+        _ => &[],
     }
 }
 
-// The words that have a name, `in` and `out`, `0` and `1`, the windows b, b2, bh, bh2, h and h2 by their
-// places in the source, and the blends n, l, q and c by their grid points: the tens are the word's kind,
-// the ones its number. 0 is no such word.
-fn place_of(name: u64) -> u64 {
+// The number of a word that has a name: `in` and `out`, `0` and `1`, the windows by their places in the source,
+// and the blends by their grid points.
+fn side_of(name: &[u8]) -> Option<u64> {
     match name {
-        0x1_696e => 40,
-        0x1_6f7574 => 41,
-        0x1_30 => 50,
-        0x1_31 => 51,
-        0x1_62 => 70,
-        0x1_6232 => 71,
-        0x1_6268 => 72,
-        0x1_626832 => 73,
-        0x1_68 => 74,
-        0x1_6832 => 75,
-        0x1_6e => 101,
-        0x1_6c => 102,
-        0x1_71 => 103,
-        0x1_63 => 104,
-        _ => 0,
+        b"in" => Some(0),
+        b"out" => Some(1),
+        _ => None,
     }
 }
 
-fn named(kind: u64, name: u64) -> Option<u64> {
-    let place = place_of(name);
-    (place / 10 == kind).then_some(place % 10)
-}
-
-fn is_allowed(kind: u64, n: u64) -> bool {
-    match kind {
-        3 => (n == 1) | (n == 2) | (n == 4) | (n == 6) | (n == 8),
-        6 => (n >= 1) & (n <= 4),
-        _ => true,
+fn flag_of(name: &[u8]) -> Option<u64> {
+    match name {
+        b"0" => Some(0),
+        b"1" => Some(1),
+        _ => None,
     }
 }
 
-fn counted(kind: u64, number: Option<u64>) -> Option<u64> {
-    let n = number?;
-    is_allowed(kind, n).then_some(n)
+fn window_of(name: &[u8]) -> Option<u64> {
+    match name {
+        b"b" => Some(0),
+        b"b2" => Some(1),
+        b"bh" => Some(2),
+        b"bh2" => Some(3),
+        b"h" => Some(4),
+        b"h2" => Some(5),
+        _ => None,
+    }
 }
 
-// The samples of an area that has gone on in others: only a table may have any there.
-fn longer(kind: u64, first: u64, more: u64) -> Option<u64> {
-    if more == 0 {
-        return Some(first);
+fn blend_of(name: &[u8]) -> Option<u64> {
+    match name {
+        b"n" => Some(1),
+        b"l" => Some(2),
+        b"q" => Some(3),
+        b"c" => Some(4),
+        _ => None,
     }
-    if kind != 12 {
-        return None;
-    }
-    if more > u64::MAX - first {
-        return None;
-    }
-    Some(first + more)
 }
 
-fn samples_in(kind: u64, first: usize, area: Area) -> Option<u64> {
-    let more = text::area_done(area)?;
-    if first == 0 {
-        return Some(more);
+fn length_of(word: Word) -> Option<u64> {
+    text::decimal_done(word.whole).filter(|n| matches!(*n, 1 | 2 | 4 | 6 | 8))
+}
+
+fn grid_of(word: Word) -> Option<u64> {
+    text::decimal_done(word.whole).filter(|n| matches!(*n, 1..=4))
+}
+
+// The samples of an area, none of which went on in others.
+fn samples_in(word: Word) -> Option<u64> {
+    let more = text::area_done(word.area)?;
+    match word.first {
+        0 => Some(more),
+        first if more == 0 => Some(first as u64),
+        _ => None,
     }
-    longer(kind, first as u64, more)
+}
+
+// The samples of a table, which may have gone on in others.
+fn table_in(word: Word) -> Option<u64> {
+    let more = text::area_done(word.area)?;
+    more.checked_add(word.first as u64)
 }
 
 fn has_colon(word: Word) -> bool {
-    let input = word.input;
-    input.byte == 58
+    word.input.byte == b':'
 }
 
 // Whether a word in the place of L is the `s` of a sinc, behind which a colon stands.
-pub fn begins_sinc(kind: u64, word: Word) -> bool {
-    (kind == 11) & (word.name == 0x1_73) & has_colon(word)
+pub fn begins_sinc(takes: Option<Takes>, word: Word) -> bool {
+    let name = word.name;
+    takes == Some(Takes::Kind) && has_colon(word) && matches!(name.text(), b"s")
 }
 
-// The number of a word before a colon.
-fn value_before(kind: u64, word: Word) -> Option<u64> {
-    let whole = word.whole;
-    if begins_sinc(kind, word) {
-        return Some(0);
-    }
-    if kind == 13 {
-        return text::decimal_done(whole);
-    }
-    None
-}
-
-// The number of a word as its kind reads it: of an area how many samples it has, of bytes how many there
-// are with those of the words before it, of the `s` of a sinc 0.
-pub fn value_of(kind: u64, word: Word) -> Option<u64> {
-    let whole = word.whole;
-    let bits = word.bits;
-    let area = word.area;
-    let bytes = word.bytes;
-    if has_colon(word) {
-        return value_before(kind, word);
-    }
-    match kind {
-        1 => text::hex_done(bits),
-        2 | 6 => counted(kind, text::decimal_done(whole)),
-        3 | 11 => counted(3, text::decimal_done(whole)),
-        4 | 5 | 7 | 10 => named(kind, word.name),
-        8 | 9 | 12 => samples_in(kind, word.first, area),
-        14 | 15 => bytes_done(bytes),
+// The number of a word before a colon; of the `s` of a sinc 0.
+fn value_before(takes: Takes, word: Word) -> Option<u64> {
+    match takes {
+        Takes::Kind if begins_sinc(Some(takes), word) => Some(0),
+        Takes::Before => text::decimal_done(word.whole),
         _ => None,
+    }
+}
+
+// The number of a word by what it has to be: of an area how many samples it has, of bytes how many there
+// are with those of the words before it.
+pub fn value_of(takes: Option<Takes>, word: Word) -> Option<u64> {
+    let takes = takes?;
+    let name = word.name;
+    if has_colon(word) {
+        return value_before(takes, word);
+    }
+    match takes {
+        Takes::Float => text::hex_done(word.bits),
+        Takes::Whole => text::decimal_done(word.whole),
+        Takes::Length | Takes::Kind => length_of(word),
+        Takes::Grid => grid_of(word),
+        Takes::Side => side_of(name.text()),
+        Takes::Flag => flag_of(name.text()),
+        Takes::Window => window_of(name.text()),
+        Takes::Blend => blend_of(name.text()),
+        Takes::Area | Takes::Output => samples_in(word),
+        Takes::Table => table_in(word),
+        Takes::Bytes | Takes::Logs => bytes_done(word.bytes),
+        Takes::Before => None,
     }
 }
