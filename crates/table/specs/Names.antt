@@ -1,10 +1,7 @@
 -- Windows by their names, which are lists of ASCII bytes. Definitions only.
-use Rattle.std.specs.Prelude.{Bool, true, List, [], ◌∷◌, ◌⊎◌, ◌≡◌, ℕ, ◌-◌, ◌≤◌, take, drop}
+use Rattle.std.specs.Prelude.{Bool, true, List, [], ◌∷◌, ◌⊎◌, ◌≡◌, ℕ, Option, Some, None}
 use Rattle.windows.specs.declared.WindowFunction.{WindowFunction}
 use Rattle.windows.specs.declared.WindowFunction.TheVariants.{Blackman, Blackman2, BlackmanHarris, BlackmanHarris2, Hann, Hann2}
-use Rattle.table.specs.declared.named.Named.{Named}
-use Rattle.table.specs.declared.named.Named.TheVariants as named
-use Rattle.table.specs.declared.named.Span.{Span}
 
 -- `hann`, `blackman`, `blackman-harris`, and with a `2` behind it for the square
 abbrev pub long_name : WindowFunction → List ℕ
@@ -29,22 +26,9 @@ abbrev pub IsName : List ℕ → WindowFunction → Type 0
 IsName word w = (word ≡ long_name w) ⊎ (word ≡ short_name w)
 
 -- the window that a word names; a word that is bad names none
-abbrev pub Names : List ℕ → Named → Type 0
-Names word (named.Window w) = IsName word w
-Names word named.Bad = (w : WindowFunction) → IsName word w → ⊥
-
--- ---- where the code has the names
--- `hann2 blackman2 blackman-harris2 h2 b2 bh2`
-abbrev pub list : List ℕ
-list = 104 ∷ 97 ∷ 110 ∷ 110 ∷ 50 ∷ 32 ∷ 98 ∷ 108 ∷ 97 ∷ 99 ∷ 107 ∷ 109 ∷ 97 ∷ 110 ∷ 50 ∷ 32 ∷ 98 ∷ 108 ∷ 97 ∷ 99 ∷ 107 ∷ 109 ∷ 97 ∷ 110 ∷ 45 ∷ 104 ∷ 97 ∷ 114 ∷ 114 ∷ 105 ∷ 115 ∷ 50 ∷ 32 ∷ 104 ∷ 50 ∷ 32 ∷ 98 ∷ 50 ∷ 32 ∷ 98 ∷ 104 ∷ 50 ∷ []
-
--- the bytes of a span of that list
-abbrev pub part : Span → List ℕ
-part s = take (s.to - s.from) (drop s.from list)
-
--- a span that lies in the list, and has a name
-abbrev pub Spans : Span → List ℕ → Type 0
-Spans s name = (s.from ≤ s.to) × (s.to ≤ 42) × (part s ≡ name)
+abbrev pub Names : List ℕ → Option WindowFunction → Type 0
+Names word (Some w) = IsName word w
+Names word None = (w : WindowFunction) → IsName word w → ⊥
 
 -- a test says whether a fact holds
 abbrev pub Tells : Bool → Type 0 → Type 0

@@ -6,7 +6,7 @@ use crate::keep::keep;
 use crate::words::Words;
 use system::System;
 
-// How many entries the table has; 0 where there would be too many.
+// How many entries the table has; 0 where there would be too many: an empty area is refused.
 fn entries_of(points: usize, factor: usize) -> usize
     ensures { (result ≤ 65536) × (result ≡ entries_of points factor) }
 {

@@ -1,5 +1,5 @@
 // The words of the command line, one after the other.
-use crate::named::{Named, window_named};
+use crate::named::window_named;
 use programs::Common;
 use system::System;
 use windows::WindowFunction;
@@ -16,9 +16,7 @@ pub struct Words {
 }
 
 fn with_common(w: Words, common: Common) -> Words {
-    let mut s = w;
-    s.common = common;
-    s
+    Words { common, ..w }
 }
 
 // Says what is wrong with a word.
@@ -35,15 +33,18 @@ fn with_count(sys: &mut System, w: Words, word: &[u8]) -> Words {
             word,
         );
     };
-    let mut s = w;
     if w.plain == 0 {
-        s.plain = 1;
-        s.points = n as usize;
-    } else {
-        s.plain = 2;
-        s.factor = n as usize;
+        return Words {
+            plain: 1,
+            points: n as usize,
+            ..w
+        };
     }
-    s
+    Words {
+        plain: 2,
+        factor: n as usize,
+        ..w
+    }
 }
 
 fn with_cutoff(sys: &mut System, w: Words, word: &[u8]) -> Words {
@@ -55,14 +56,15 @@ fn with_cutoff(sys: &mut System, w: Words, word: &[u8]) -> Words {
             word,
         );
     };
-    let mut s = w;
-    s.plain = 3;
-    s.cutoff = x;
-    s
+    Words {
+        plain: 3,
+        cutoff: x,
+        ..w
+    }
 }
 
 fn with_window(sys: &mut System, w: Words, word: &[u8]) -> Words {
-    let Named::Window(window) = window_named(word) else {
+    let Some(window) = window_named(word) else {
         return bad(
             sys,
             w,
@@ -70,14 +72,10 @@ fn with_window(sys: &mut System, w: Words, word: &[u8]) -> Words {
             word,
         );
     };
-    let common = w.common;
     Words {
         plain: 4,
-        points: w.points,
-        factor: w.factor,
-        cutoff: w.cutoff,
         window,
-        common,
+        ..w
     }
 }
 
@@ -86,8 +84,7 @@ fn with_word(sys: &mut System, w: Words, at: usize, word: &[u8]) -> Words {
     if common.takes(word) {
         return with_common(w, common.with_word(sys, b"table", at, word));
     }
-    let k = w.plain;
-    match k {
+    match w.plain {
         0 | 1 => with_count(sys, w, word),
         2 => with_cutoff(sys, w, word),
         3 => with_window(sys, w, word),
