@@ -35,7 +35,8 @@ pub struct Told {
     pub end: End,
 }
 
-// The sheet after a record, what is told of it, if anything is, and whether the log is read on.
+// The sheet after a record, what is told of it, if anything is, and whether the log is read on: a closed line is
+// told and the log read on, so the one does not say the other.
 #[derive(Clone, Copy)]
 pub struct Turn {
     pub sheet: Sheet,
