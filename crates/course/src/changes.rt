@@ -2,7 +2,7 @@
 use crate::pass::{Due, Line, Pass, Plan, Run, Setting, not_recorded, refused, stop_told};
 use asynchro::Outcome;
 use options::{Change, Files};
-use schedule::{Cursor, Entry, Next};
+use schedule::Entry;
 use system::{Fd, System};
 
 fn line_of(entry: Entry) -> Line {
@@ -19,7 +19,7 @@ fn line_of(entry: Entry) -> Line {
             block,
             setting: Setting::Mask(mask),
         }),
-        Entry::Blank | Entry::Bad => Line::Bad,
+        Entry::Blank => Line::Bad,
     }
 }
 
@@ -39,9 +39,9 @@ pub fn next_line(sys: &mut System, fd: Option<Fd>, bytes: &mut [u8], plan: Plan)
     };
     let step = schedule::next_entry(sys, fd, bytes, plan.cursor);
     let line = match step.next {
-        Next::Found(entry) => line_of(entry),
-        Next::Over => Line::Over,
-        Next::Failed => Line::Bad,
+        Ok(Some(entry)) => line_of(entry),
+        Ok(None) => Line::Over,
+        Err(_) => Line::Bad,
     };
     Plan {
         line,

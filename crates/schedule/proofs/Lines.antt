@@ -2,18 +2,12 @@
 use Rattle.std.proofs.Common.{◌≡◌, ℕ, ◌-◌, ◌<◌, ◌≤◌, Bool, true, false, cond, eqb, List, [], ◌∷◌, length, get_or, take, drop, sym, refl, ap, ◌∙◌, true≢false, add-zero, arith, length-drop, get_or-drop, eq-eqb, ne_eqb, eqb-true}
 use mathlib.Core.Bool.{and-eq-true_iff}
 use Rattle.std.specs.Prelude.{Option, Some, None}
-use Rattle.text.specs.Words.{decimal_of}
 use Rattle.schedule.specs.Words.{from_word, word_of, behind_word}
 use Rattle.schedule.specs.Places.{WordAt}
-use Rattle.schedule.specs.Entries.{same_word, name_of, named_of, with_block, fields_of, is_over, next_word, entry_of}
-use Rattle.schedule.specs.declared.entries.Name.{Name}
+use Rattle.schedule.specs.Entries.{same_word, name_of, fields_of, is_over, next_word, entry_of}
 use Rattle.schedule.specs.declared.entries.Name.TheVariants as name
 use Rattle.schedule.specs.declared.entries.Entry.{Entry}
 use Rattle.schedule.specs.declared.entries.Entry.TheVariants as entry
-
--- what a function says of an answer that is one of two values
-pub chosen : {A B : Type 0} (f : A → B) (p q r : A) → p ≡ q → p ≡ r → f r ≡ f q
-chosen f p q r e k = ap f (sym k ∙ e)
 
 -- ---- names
 is_word : (w v : List ℕ) → same_word w v ≡ true → w ≡ v
@@ -45,30 +39,23 @@ test_false r w v t e = go (same_word w v) refl
     go true k = absurd (true≢false (sym (t.1 (is_word w v k)) ∙ e))
 
 module _ (w : List ℕ) (a : Bool) (ta : Tells a w (97 ∷ 116 ∷ [])) where
-  pub name_at : a ≡ true → name.At ≡ name_of w
+  pub name_at : a ≡ true → Some name.At ≡ name_of w
   unfolding name_of
   name_at e = rw (test_true a w _ ta e)
 
   module _ (na : a ≡ false) (b : Bool) (tb : Tells b w (114 ∷ 97 ∷ 109 ∷ 112 ∷ [])) where
-    pub name_ramp : b ≡ true → name.Ramp ≡ name_of w
+    pub name_ramp : b ≡ true → Some name.Ramp ≡ name_of w
     unfolding name_of
     name_ramp e = rw (test_false a w _ ta na, test_true b w _ tb e)
 
     module _ (nb : b ≡ false) (c : Bool) (tc : Tells c w (109 ∷ 97 ∷ 115 ∷ 107 ∷ [])) where
-      pub name_mask : c ≡ true → name.Mask ≡ name_of w
+      pub name_mask : c ≡ true → Some name.Mask ≡ name_of w
       unfolding name_of
       name_mask e = rw (test_false a w _ ta na, test_false b w _ tb nb, test_true c w _ tc e)
 
-      pub name_none : c ≡ false → name.Unknown ≡ name_of w
+      pub name_none : c ≡ false → None ≡ name_of w
       unfolding name_of
       name_none e = rw (test_false a w _ ta na, test_false b w _ tb nb, test_false c w _ tc e)
-
--- ---- three words
-pub fields_are : (n b v : List ℕ) (r : Entry) (x : Name) (k : ℕ) (p : Option ℕ) → r ≡ named_of x k v → x ≡ name_of n → p ≡ decimal_of b → p ≡ Some k → r ≡ fields_of n b v
-fields_are n b v r x k p h e f g = h ∙ ap (λ (y : Name). named_of y k v) e ∙ chosen (λ (q : Option ℕ). with_block (name_of n) q v) p (decimal_of b) (Some k) f g
-
-pub fields_bad : (n b v : List ℕ) (p : Option ℕ) → p ≡ decimal_of b → p ≡ None → entry.Bad ≡ fields_of n b v
-fields_bad n b v p f g = chosen (λ (q : Option ℕ). with_block (name_of n) q v) p (decimal_of b) None f g
 
 -- ---- nothing, or a `#`
 module _ (w : List ℕ) (at : ℕ) where
@@ -82,7 +69,7 @@ module _ (w : List ℕ) (at : ℕ) where
 
 -- ---- a line, whose words stand at a to b, c to d, e to f, with g behind them
 module _ (w : List ℕ) (a b : ℕ) (first : WordAt w 0 a b) (r : Bool) (t : r ≡ is_over (drop a w)) where
-  pub line_over : r ≡ true → entry.Blank ≡ entry_of w
+  pub line_over : r ≡ true → Some entry.Blank ≡ entry_of w
   unfolding entry_of
   line_over h = rw (ap is_over (sym first.starts) ∙ sym t ∙ h)
 
@@ -99,14 +86,14 @@ module _ (w : List ℕ) (a b : ℕ) (first : WordAt w 0 a b) (r : Bool) (t : r �
         ∙ ap from_word (third.then ∙ ap (λ (v : List ℕ). behind_word (from_word v)) (second.then ∙ ap (λ (v : List ℕ). behind_word (from_word v)) first.then))
 
     said_by : (n : Bool) → eqb (length (drop g w)) 0 ≡ n
-        → cond n (fields_of (word_of (from_word w)) (word_of (next_word (from_word w))) (word_of (next_word (next_word (from_word w))))) entry.Bad ≡ entry_of w
+        → cond n (fields_of (word_of (from_word w)) (word_of (next_word (from_word w))) (word_of (next_word (next_word (from_word w))))) None ≡ entry_of w
     unfolding entry_of
     said_by n k = rw (ap is_over (sym first.starts) ∙ sym t ∙ some, ← at_4, k)
 
-    pub line_bad : g < length w → entry.Bad ≡ entry_of w
+    pub line_bad : g < length w → None ≡ entry_of w
     line_bad l = said_by false (ne_eqb (length (drop g w)) 0 (λ z. omega (arith, length-drop g w)))
 
-    pub line_is : length w ≤ g → (x : Entry) → x ≡ fields_of (take (b - a) (drop a w)) (take (d - c) (drop c w)) (take (f - e) (drop e w)) → x ≡ entry_of w
+    pub line_is : length w ≤ g → (x : Option Entry) → x ≡ fields_of (take (b - a) (drop a w)) (take (d - c) (drop c w)) (take (f - e) (drop e w)) → x ≡ entry_of w
     line_is l x k =
         let p : take (d - c) (drop c w) ≡ word_of (next_word (from_word w)) = second.held ∙ ap (λ (v : List ℕ). word_of (from_word v)) first.then in
         let q : take (f - e) (drop e w) ≡ word_of (next_word (next_word (from_word w)))

@@ -16,38 +16,38 @@ same_word (a ∷ w) [] = false
 same_word (a ∷ w) (b ∷ v) = a == b && same_word w v
 
 -- the names, in ASCII
-unfoldable pub name_of : List ℕ → Name
+unfoldable pub name_of : List ℕ → Option Name
 unfolding same_word
 name_of w =
-    cond (same_word w (97 ∷ 116 ∷ [])) name.At
-    (cond (same_word w (114 ∷ 97 ∷ 109 ∷ 112 ∷ [])) name.Ramp
-    (cond (same_word w (109 ∷ 97 ∷ 115 ∷ 107 ∷ [])) name.Mask name.Unknown))
+    cond (same_word w (97 ∷ 116 ∷ [])) (Some name.At)
+    (cond (same_word w (114 ∷ 97 ∷ 109 ∷ 112 ∷ [])) (Some name.Ramp)
+    (cond (same_word w (109 ∷ 97 ∷ 115 ∷ 107 ∷ [])) (Some name.Mask) None))
 
 -- a change before a block
-abbrev pub at_of : ℕ → Option Float → Entry
-at_of block (Some x) = entry.At block x
-at_of block None = entry.Bad
+abbrev pub at_of : ℕ → Option Float → Option Entry
+at_of block (Some x) = Some (entry.At block x)
+at_of block None = None
 
-abbrev pub ramp_of : ℕ → Option Float → Entry
-ramp_of block (Some x) = entry.Ramp block x
-ramp_of block None = entry.Bad
+abbrev pub ramp_of : ℕ → Option Float → Option Entry
+ramp_of block (Some x) = Some (entry.Ramp block x)
+ramp_of block None = None
 
-abbrev pub mask_of : ℕ → Option ℕ → Entry
-mask_of block (Some m) = entry.Mask block m
-mask_of block None = entry.Bad
+abbrev pub mask_of : ℕ → Option ℕ → Option Entry
+mask_of block (Some m) = Some (entry.Mask block m)
+mask_of block None = None
 
-abbrev pub named_of : Name → ℕ → List ℕ → Entry
+abbrev pub named_of : Name → ℕ → List ℕ → Option Entry
 named_of name.At block value = at_of block (number_of value)
 named_of name.Ramp block value = ramp_of block (number_of value)
 named_of name.Mask block value = mask_of block (decimal_of value)
-named_of name.Unknown block value = entry.Bad
 
-abbrev pub with_block : Name → Option ℕ → List ℕ → Entry
-with_block n (Some block) value = named_of n block value
-with_block n None value = entry.Bad
+abbrev pub with_block : Option Name → Option ℕ → List ℕ → Option Entry
+with_block (Some n) (Some block) value = named_of n block value
+with_block (Some n) None value = None
+with_block None block value = None
 
 -- three words: a name, a block in decimal digits, and a ratio as on the command line or a mask in decimal digits
-abbrev pub fields_of : List ℕ → List ℕ → List ℕ → Entry
+abbrev pub fields_of : List ℕ → List ℕ → List ℕ → Option Entry
 fields_of n block value = with_block (name_of n) (decimal_of block) value
 
 -- nothing, or a text that begins with `#`
@@ -59,14 +59,14 @@ abbrev pub next_word : List ℕ → List ℕ
 next_word w = from_word (behind_word w)
 
 -- a text that does not begin with a blank: three words and no more, or nothing
-abbrev pub said_of : List ℕ → Entry
+abbrev pub said_of : List ℕ → Option Entry
 said_of w =
-    cond (is_over w) entry.Blank
+    cond (is_over w) (Some entry.Blank)
     (cond (length (next_word (next_word (next_word w))) == 0)
     (fields_of (word_of w) (word_of (next_word w)) (word_of (next_word (next_word w))))
-    entry.Bad)
+    None)
 
 -- what a line says
-unfoldable pub entry_of : List ℕ → Entry
+unfoldable pub entry_of : List ℕ → Option Entry
 unfolding from_word word_of behind_word name_of
 entry_of line = said_of (from_word line)

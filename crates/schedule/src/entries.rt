@@ -1,12 +1,7 @@
 // What a line of the plan says.
 ghost use Rattle.std.specs.Prelude.{◌≡◌, drop};
-ghost use Rattle.decimals.specs.Numbers.{number_of};
-ghost use Rattle.text.specs.Words.{decimal_of};
 ghost use Rattle.schedule.specs.Entries.{
   name_of,
-  at_of,
-  ramp_of,
-  mask_of,
   named_of,
   fields_of,
   is_over,
@@ -16,14 +11,13 @@ ghost use Rattle.schedule.specs.Entries.{
 use crate::words::word_at;
 
 // A change before a block: a ratio at once, a ratio by a ramp, or the mask from there on. Blank lines say
-// nothing; the others are bad.
+// nothing.
 #[derive(Clone, Copy)]
 pub enum Entry {
     At(u64, f64),
     Ramp(u64, f64),
     Mask(u64, u64),
     Blank,
-    Bad,
 }
 
 // The first word of a line.
@@ -32,71 +26,41 @@ enum Name {
     At,
     Ramp,
     Mask,
-    Unknown,
 }
 
-fn name_of(word: &[u8]) -> Name
+fn name_of(word: &[u8]) -> Option<Name>
     ensures { result ≡ name_of word.now }
 {
     if check::same(word, b"at") {
-        return Name::At;
+        return Some(Name::At);
     }
     if check::same(word, b"ramp") {
-        return Name::Ramp;
+        return Some(Name::Ramp);
     }
     if check::same(word, b"mask") {
-        return Name::Mask;
+        return Some(Name::Mask);
     }
-    Name::Unknown
-}
-
-fn at_of(block: u64, value: &[u8]) -> Entry
-    ensures { result ≡ at_of block (number_of value.now) }
-{
-    match decimals::number_of(value) {
-        Some(x) => Entry::At(block, x),
-        None => Entry::Bad,
-    }
-}
-
-fn ramp_of(block: u64, value: &[u8]) -> Entry
-    ensures { result ≡ ramp_of block (number_of value.now) }
-{
-    match decimals::number_of(value) {
-        Some(x) => Entry::Ramp(block, x),
-        None => Entry::Bad,
-    }
-}
-
-fn mask_of(block: u64, value: &[u8]) -> Entry
-    ensures { result ≡ mask_of block (decimal_of value.now) }
-{
-    match text::decimal_of(value) {
-        Some(m) => Entry::Mask(block, m),
-        None => Entry::Bad,
-    }
+    None
 }
 
 // What a name says with a block and a value.
-fn named(name: Name, block: u64, value: &[u8]) -> Entry
+fn named(name: Name, block: u64, value: &[u8]) -> Option<Entry>
     ensures { result ≡ named_of name block value.now }
 {
     match name {
-        Name::At => at_of(block, value),
-        Name::Ramp => ramp_of(block, value),
-        Name::Mask => mask_of(block, value),
-        Name::Unknown => Entry::Bad,
+        Name::At => Some(Entry::At(block, decimals::number_of(value)?)),
+        Name::Ramp => Some(Entry::Ramp(block, decimals::number_of(value)?)),
+        Name::Mask => Some(Entry::Mask(block, text::decimal_of(value)?)),
     }
 }
 
 // What three words say.
-fn fields_of(name: &[u8], block: &[u8], value: &[u8]) -> Entry
+fn fields_of(name: &[u8], block: &[u8], value: &[u8]) -> Option<Entry>
     ensures { result ≡ fields_of name.now block.now value.now }
 {
-    match text::decimal_of(block) {
-        Some(n) => named(name_of(name), n, value),
-        None => Entry::Bad,
-    }
+    let name = name_of(name)?;
+    let block = text::decimal_of(block)?;
+    named(name, block, value)
 }
 
 // Whether nothing stands from the place `at` on, or a `#`.
@@ -109,25 +73,23 @@ fn is_over(line: &[u8], at: usize) -> bool
     line[at] == 35
 }
 
-// What a line says: three words and no more, or nothing.
-pub fn entry_of(line: &[u8]) -> Entry
+// What a line says: three words and no more, or nothing; none where it is bad.
+pub fn entry_of(line: &[u8]) -> Option<Entry>
     ensures { result ≡ entry_of line.now }
 {
     let first = word_at(line, 0);
     if is_over(line, first.from) {
-        return Entry::Blank;
+        return Some(Entry::Blank);
     }
     let second = word_at(line, first.to);
     let third = word_at(line, second.to);
     let fourth = word_at(line, third.to);
     if fourth.from < line.len() {
-        return Entry::Bad;
+        return None;
     }
-    let a = first.from;
-    let b = first.to;
-    let c = second.from;
-    let d = second.to;
-    let e = third.from;
-    let f = third.to;
-    fields_of(&line[a..b], &line[c..d], &line[e..f])
+    fields_of(
+        &line[first.from..first.to],
+        &line[second.from..second.to],
+        &line[third.from..third.to],
+    )
 }

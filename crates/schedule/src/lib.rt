@@ -7,4 +7,4 @@ mod reading;
 mod words;
 
 pub use entries::{Entry, entry_of};
-pub use reading::{Cursor, Next, Step, next_entry, start};
+pub use reading::{Cursor, Step, Unread, next_entry, start};

@@ -2,7 +2,6 @@
 ghost use Rattle.std.specs.Prelude.{◌+◌, ◌≤◌, length};
 
 use crate::entries::{Entry, entry_of};
-use samples::least;
 use system::{Fd, System};
 
 // Where the reading stands: the bytes at `at` up to `end` of the buffer are not yet used; `line` is the number
@@ -16,17 +15,17 @@ pub struct Cursor {
     pub failed: bool,
 }
 
-// The next change, never a blank one; that the file is over; or that a read failed.
-#[derive(Clone, Copy)]
-pub enum Next {
-    Found(Entry),
-    Over,
+// Why a plan is not read on: a line that says nothing that it could, or a read that failed.
+#[derive(Clone, Copy, PartialEq, Eq, Debug)]
+pub enum Unread {
+    Bad,
     Failed,
 }
 
+// The next change, never a blank one, or none where the file is over; and where the reading then stands.
 #[derive(Clone, Copy)]
 pub struct Step {
-    pub next: Next,
+    pub next: Result<Option<Entry>, Unread>,
     pub cursor: Cursor,
 }
 
@@ -45,9 +44,9 @@ pub fn start() -> Cursor {
 fn kept(c: Cursor, size: usize) -> Cursor
     ensures { (result.at ≤ result.end) × (result.end ≤ size) }
 {
-    let end = least(c.end, size);
+    let end = c.end.min(size);
     Cursor {
-        at: least(c.at, end),
+        at: c.at.min(end),
         end,
         line: c.line,
         ended: c.ended,
@@ -56,16 +55,16 @@ fn kept(c: Cursor, size: usize) -> Cursor
 }
 
 // A line has been read: what it says, and `at` is behind it.
-fn told(e: Entry, c: Cursor, at: usize, ended: bool) -> Step {
+fn told(e: Option<Entry>, c: Cursor, at: usize, ended: bool) -> Step {
     let cursor = Cursor {
         at,
         end: c.end,
-        line: std::num::wrapping_add_u64(c.line, 1),
+        line: c.line.wrapping_add(1),
         ended,
         failed: c.failed,
     };
     Step {
-        next: Next::Found(e),
+        next: e.map(Some).ok_or(Unread::Bad),
         cursor,
     }
 }
@@ -76,18 +75,9 @@ fn line_read(bytes: &[u8], c: Cursor, to: usize, at: usize) -> Step
 {
     let from = c.at;
     if to - from > 255 {
-        return told(Entry::Bad, c, c.end, true);
+        return told(None, c, c.end, true);
     }
     told(entry_of(&bytes[from..to]), c, at, c.ended)
-}
-
-// The bytes from `at` on, `held` of them, go to the front.
-fn to_front(bytes: &mut [u8], at: usize, held: usize)
-    requires { at + held ≤ length bytes.old }
-{
-    for k in 0..held {
-        bytes[k] = bytes[at + k];
-    }
 }
 
 // One read behind the bytes that are held.
@@ -111,12 +101,12 @@ fn more(sys: &mut System, fd: Fd, bytes: &mut [u8], c: Cursor) -> Step
 {
     let held = c.end - c.at;
     if (held > 255) | (held == bytes.len()) {
-        return told(Entry::Bad, c, c.end, true);
+        return told(None, c, c.end, true);
     }
-    to_front(bytes, c.at, held);
+    bytes.copy_within(c.at..c.end, 0);
     let cursor = read_on(sys, fd, bytes, held, c.line);
     Step {
-        next: Next::Found(Entry::Blank),
+        next: Ok(Some(Entry::Blank)),
         cursor,
     }
 }
@@ -127,13 +117,13 @@ fn last_read(bytes: &[u8], c: Cursor) -> Step
 {
     if c.failed {
         return Step {
-            next: Next::Failed,
+            next: Err(Unread::Failed),
             cursor: c,
         };
     }
     if c.at == c.end {
         return Step {
-            next: Next::Over,
+            next: Ok(None),
             cursor: c,
         };
     }
@@ -154,30 +144,14 @@ fn turn(sys: &mut System, fd: Fd, bytes: &mut [u8], c: Cursor) -> Step {
     more(sys, fd, bytes, k)
 }
 
-// Whether there is nothing to tell yet.
-fn is_open(s: Step) -> bool {
-    let next = s.next;
-    match next {
-        Next::Found(e) => match e {
-            Entry::Blank => true,
-            _ => false,
-        },
-        _ => false,
-    }
-}
-
-// The next change of the plan. Nothing says that a file ends, so the turns are counted down from a number that
-// no run uses up.
+// The next change of the plan. Nothing says that a file ends, so the turns are of a number that no run uses up.
 pub fn next_entry(sys: &mut System, fd: Fd, bytes: &mut [u8], c: Cursor) -> Step {
-    let mut s = Step {
-        next: Next::Found(Entry::Blank),
-        cursor: c,
-    };
-    let mut turns = u64::MAX;
-    while turns > 0 && is_open(s) {
-        let cursor = s.cursor;
-        s = turn(sys, fd, bytes, cursor);
-        turns -= 1;
+    let mut s = turn(sys, fd, bytes, c);
+    for _ in 1..u64::MAX {
+        let Ok(Some(Entry::Blank)) = s.next else {
+            return s;
+        };
+        s = turn(sys, fd, bytes, s.cursor);
     }
     s
 }
