@@ -1,7 +1,8 @@
 // What failed last.
-ghost use Rattle.std.specs.Prelude.{◌≡◌, ◌≤◌};
+ghost use Rattle.std.specs.Prelude.{◌≡◌};
 
 use crate::{ERROR, System};
+use bounded::Text;
 use std::env::FillError;
 use std::fmt::Write;
 use std::{fmt, io};
@@ -27,6 +28,9 @@ pub const TOO_MANY: Failed = Failed { number: 24 };
 // Of a failure that std gives no number.
 const OTHER: i32 = 5;
 
+// Nothing failed: the system has a text for that too.
+const NONE: Failed = Failed { number: 0 };
+
 impl From<io::Error> for Failed {
     fn from(e: io::Error) -> Failed {
         Failed {
@@ -44,42 +48,20 @@ impl From<FillError> for Failed {
     }
 }
 
-const ROOM: usize = 128;
-
-// What std says of a failure, as far as there is room.
-#[derive(Drop)]
-struct Words {
-    bytes: [u8; ROOM],
-    len: usize,
-}
-
-impl fmt::Write for Words {
-    fn write_str(&mut self, s: &str) -> fmt::Result {
-        for b in s.as_bytes() {
-            let at = self.len;
-            if at >= ROOM {
-                return Err(fmt::Error);
-            }
-            self.bytes[at] = *b;
-            self.len = at + 1;
-        }
-        Ok(())
-    }
-}
-
-// Behind the system's text std writes ` (os error `, the number and `)`: how long the text is without that.
-fn told_to(words: &Words) -> usize
-    ensures { result ≤ 128 }
-{
-    for (at, b) in words.bytes.iter().enumerate() {
-        if at >= words.len {
-            return at;
-        }
-        if *b == b'(' && at > 0 {
-            return at - 1;
+// The system's text of the failure. std writes its number behind it, which is left out.
+impl fmt::Display for Failed {
+    fn fmt<W: fmt::Write>(&self, f: &mut fmt::Formatter<W>) -> fmt::Result {
+        let e = io::Error::from_raw_os_error(self.number);
+        let mut text = Text::<128>::new();
+        write!(text, "{e}")?;
+        match std::str::from_utf8(text.as_bytes()) {
+            Ok(text) => match text.split_once(" (os error ") {
+                Some((told, _)) => f.write_str(told),
+                None => f.write_str(text),
+            },
+            Err(_) => Err(fmt::Error),
         }
     }
-    ROOM
 }
 
 impl System {
@@ -96,17 +78,10 @@ impl System {
     // Writes a line to standard error: what failed, as the caller names it, a colon and the system's text of
     // the last failure.
     pub fn fail(&mut self, what: &[u8]) {
-        let mut words = Words {
-            bytes: [0; ROOM],
-            len: 0,
-        };
-        let number = self.last.map_or(0, |e| e.number);
-        let e = io::Error::from_raw_os_error(number);
-        let _ = write!(words, "{e}");
-        let k = told_to(&words);
+        let last = self.last.unwrap_or(NONE);
+        let mut text = Text::<128>::new();
+        let _ = write!(text, ": {last}\n");
         self.write_all(ERROR, what);
-        self.write_all(ERROR, b": ");
-        self.write_all(ERROR, &words.bytes[..k]);
-        self.write_all(ERROR, b"\n");
+        self.write_all(ERROR, text.as_bytes());
     }
 }

@@ -25,7 +25,8 @@ impl System {
         self.noted(got)
     }
 
-    // Reads until the buffer is full, the input ends or a read fails, and answers how many bytes there are.
+    // Reads until the buffer is full, the input ends or a read fails, and answers how many bytes there are. (No
+    // `for`: a turn goes as far as its read went.)
     pub fn read_full(&mut self, fd: Fd, buf: &mut [u8]) -> usize
         ensures { result ≤ length buf.new }
     {

@@ -26,7 +26,8 @@ impl System {
     }
 
     // Writes all of the text, or stops at the first write that takes nothing or fails, when some of it may be
-    // written; whether all was. Of an empty text there is no write.
+    // written; whether all was: a write that takes nothing has no number of a failure. Of an empty text there is no
+    // write. (No `for`: a turn goes as far as its write went.)
     pub fn write_all(&mut self, fd: Fd, text: &[u8]) -> bool {
         let mut rest = text;
         while !rest.is_empty() {

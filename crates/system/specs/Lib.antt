@@ -1,0 +1,2 @@
+-- Which descriptors are of opened files. Definitions only.
+pub mod Opened
