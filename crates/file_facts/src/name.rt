@@ -18,6 +18,7 @@ pub fn ended(path: &[u8]) -> [u8; PATH_MAX]
     let mut ended = [0u8; PATH_MAX];
     let n = path.len().min(LAST);
     ended[..n].copy_from_slice(&path[..n]);
+    // The last byte is one of the zeros already; the check finds `Ended` by this line.
     ended[LAST] = 0;
     ended
 }

@@ -40,5 +40,6 @@ pub fn taken(about: Result<Record, Failed>) -> Option<Facts>
 fn at_least_zero(n: i64) -> u64
     ensures { result ≡ at_least_zero n }
 {
+    // `u64::try_from(n).unwrap_or(0)` says it too; its `returns` stayed open.
     if n < 0 { 0 } else { n as u64 }
 }
