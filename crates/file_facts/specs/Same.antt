@@ -1,5 +1,5 @@
 -- When two facts are of one file, and when they are of a regular one. Definitions only.
-use Rattle.std.specs.Prelude.{Bool, true, false, ◌&&◌, ◌||◌, not, eqb, Option, Some, None}
+use Rattle.std.specs.Prelude.{Bool, true, false, ◌&&◌, not, eqb, Option, Some, None}
 use Rattle.file_facts.specs.declared.Kind.{Kind}
 use Rattle.file_facts.specs.declared.Kind.TheVariants.{CharacterDevice, BlockDevice, Regular, Other}
 use Rattle.file_facts.specs.declared.Facts.{Facts}
