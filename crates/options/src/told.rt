@@ -7,7 +7,8 @@ use asynchro_sinc::SincInterpolationType;
 use system::{Fd, System};
 use windows::WindowFunction;
 
-// Whether the next word is left out, whether one stands before it, and whether all was written.
+// Whether the next word is left out, whether one stands before it, and whether all was written: any of the eight
+// can be, so an enum would be no plainer.
 #[derive(Clone, Copy)]
 struct Telling {
     skip: bool,

@@ -5,7 +5,8 @@ use text::digit_of;
 pub const MOST: usize = 131072;
 
 // What a word has come to as bytes, behind those of the words before it: nothing yet, a lone `-`, so many
-// bytes in all, so many and the first digit of the next, or that it is none or too long.
+// bytes in all, so many and the first digit of the next, or that it is none or too long. That is a state of the
+// reading as the others are, so an Option around them would be no plainer.
 #[derive(Clone, Copy)]
 pub enum Bytes {
     Start(usize),

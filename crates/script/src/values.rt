@@ -5,7 +5,8 @@ use kinds::Kind;
 use sizes::FixedAsync;
 use windows::WindowFunction;
 
-// A place for each word after the command; those behind the last hold 0.
+// A place for each word after the command; those behind the last hold 0. Whether it holds a float's bits, a count
+// or the number of a choice is what the command says: an enum would be opened at each use, and be no plainer.
 pub type Values = [u64; 16];
 
 pub fn number_at(values: Values, k: usize) -> u64 {
