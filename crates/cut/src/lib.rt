@@ -4,7 +4,7 @@
 // where they are doubles without rounding.
 #![tactic(auto)]
 
-ghost use Rattle.std.specs.Prelude.{◌≡◌, suc};
+ghost use Rattle.std.specs.Prelude.{◌≡◌, suc, is_some, unwrap_or};
 ghost use Rattle.path.specs.Path.{path_at};
 ghost use Rattle.cut.specs.Cut.{limit_of, leading, kept_of};
 
@@ -60,21 +60,21 @@ fn leading(t: f64, d: f64, i: f64, most: f64, n: usize) -> Lead
 }
 
 // What is kept of the block of `s`, with so many input frames used before it. `total` is the number of
-// input frames, which counts only once the input has ended.
-pub fn kept(s: State, used: u64, ended: bool, total: u64) -> KeptFrames
-    ensures { result ≡ kept_of s used ended total }
+// input frames, once the input has ended.
+pub fn kept(s: State, used: u64, total: Option<u64>) -> KeptFrames
+    ensures { result ≡ kept_of s used (is_some total) (unwrap_or total 0) }
 {
     let t = state::step_now(s);
     let d = plan::t_ratio_increment(s);
     let front = leading(t, d, s.index, limit(used, 0), s.output);
-    if !ended {
+    let Some(n) = total else {
         return KeptFrames {
             from: front.count,
             to: s.output,
             index: front.index,
         };
-    }
-    let whole = leading(t, d, s.index, limit(used, total), s.output);
+    };
+    let whole = leading(t, d, s.index, limit(used, n), s.output);
     KeptFrames {
         from: front.count,
         to: whole.count,
