@@ -4,7 +4,7 @@ use mathlib.Core.List.{List}
 use mathlib.Core.Path.{◌≡◌, sym, ◌∙◌}
 use Prim.Native.Nat.{ℕ}
 use lib.Ieee.{Float}
-use Rattle.core.specs.declared.result.Result as result
+use Rattle.std.specs.Prelude.{Result}
 use Rattle.error.specs.declared.Refusal.{Refusal}
 use Rattle.error.specs.Refusals.{Said, said_result, said_answer}
 use Rattle.error.proofs.Settled.{result_settled, answer_settled}
@@ -34,24 +34,24 @@ pub plain : {A : Type 0} (defined a b : A) → a ≡ defined → b ≡ defined �
 plain = one_outcome (λ a. a) (λ a b e. e)
 
 -- kernels, blends, the cutoff, the cosine and the sine, the ratio asked for
-pub answers : (defined : Said Float) (a b : result.Result Float Refusal) → said_answer a ≡ defined → said_answer b ≡ defined → a ≡ b
+pub answers : (defined : Said Float) (a b : Result Float Refusal) → said_answer a ≡ defined → said_answer b ≡ defined → a ≡ b
 answers = one_outcome said_answer answer_settled
 
 -- one to four grid points
-pub grid_1 : (defined : Said (List Point)) (a b : result.Result Point Refusal) → said_time a ≡ defined → said_time b ≡ defined → a ≡ b
+pub grid_1 : (defined : Said (List Point)) (a b : Result Point Refusal) → said_time a ≡ defined → said_time b ≡ defined → a ≡ b
 grid_1 = one_outcome said_time time_settled
 
-pub grid_2 : (defined : Said (List Point)) (a b : result.Result (List Point) Refusal) → said_result a ≡ defined → said_result b ≡ defined → a ≡ b
+pub grid_2 : (defined : Said (List Point)) (a b : Result (List Point) Refusal) → said_result a ≡ defined → said_result b ≡ defined → a ≡ b
 grid_2 = one_outcome said_result result_settled
 
-pub grid_3 : (defined : Said (List Point)) (a b : result.Result (List Point) Refusal) → said_result a ≡ defined → said_result b ≡ defined → a ≡ b
+pub grid_3 : (defined : Said (List Point)) (a b : Result (List Point) Refusal) → said_result a ≡ defined → said_result b ≡ defined → a ≡ b
 grid_3 = one_outcome said_result result_settled
 
-pub grid_4 : (defined : Said (List Point)) (a b : result.Result (List Point) Refusal) → said_result a ≡ defined → said_result b ≡ defined → a ≡ b
+pub grid_4 : (defined : Said (List Point)) (a b : Result (List Point) Refusal) → said_result a ≡ defined → said_result b ≡ defined → a ≡ b
 grid_4 = one_outcome said_result result_settled
 
 -- construction
-pub constructions : (defined : Said State) (a b : result.Result State Refusal) → said_result a ≡ defined → said_result b ≡ defined → a ≡ b
+pub constructions : (defined : Said State) (a b : Result State Refusal) → said_result a ≡ defined → said_result b ≡ defined → a ≡ b
 constructions = one_outcome said_result result_settled
 
 -- ratio and chunk settings
@@ -59,7 +59,7 @@ pub settings : (defined : Left Unit) (a b : Outcome Unit) → result_of a ≡ de
 settings = one_outcome result_of outcome_settled
 
 -- questions about a number
-pub questions : (defined : Said ℕ) (a b : result.Result ℕ Refusal) → said_result a ≡ defined → said_result b ≡ defined → a ≡ b
+pub questions : (defined : Said ℕ) (a b : Result ℕ Refusal) → said_result a ≡ defined → said_result b ≡ defined → a ≡ b
 questions = one_outcome said_result result_settled
 
 -- the block run: the outcome, the output area and the working area
@@ -72,5 +72,5 @@ pub resets : (defined : Reset) (o p : Outcome Unit) (work work' : List Float) �
 resets defined o p work work' a b = reset_settled o p work work' (a ∙ sym b)
 
 -- a window or a table in a lent area: the answer and the area
-pub fills : (defined : Filled) (o p : result.Result Unit Refusal) (area area' : List Float) → built_left o area ≡ defined → built_left p area' ≡ defined → (o ≡ p) × (area ≡ area')
+pub fills : (defined : Filled) (o p : Result Unit Refusal) (area area' : List Float) → built_left o area ≡ defined → built_left p area' ≡ defined → (o ≡ p) × (area ≡ area')
 fills defined o p area area' a b = built_settled o p area area' (a ∙ sym b)
