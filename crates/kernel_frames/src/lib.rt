@@ -115,13 +115,6 @@ fn run_part(
     walked.after
 }
 
-// The smaller of 32 and n.
-fn at_most_32(n: usize) -> usize
-    ensures { (result ≤ n) × ((result ≤ 32) × (0 < n → 0 < result)) }
-{
-    if n < 32 { n } else { 32 }
-}
-
 // The frames of a kernel, 32 at a time.
 fn run_kernel(
     degree: PolynomialDegree,
@@ -151,7 +144,7 @@ fn run_kernel(
     let mut moment = Moment { index: i, step: t };
     let mut f = 0;
     while f < n {
-        let m = at_most_32(n - f);
+        let m = (n - f).min(32);
         moment = run_part(
             degree,
             table,

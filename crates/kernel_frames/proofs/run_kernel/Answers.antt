@@ -14,20 +14,19 @@ overflow_add-at c = omega (arith, c.requires.n_bound.0)
 pub run_part-moment-requires : goal.run_part-moment-requires
 run_part-moment-requires c = let p = c.requires in
     let l = c.loop-f in
-    let m = c.at_most_32-m.ensures in
-    record { table_len = p.table_len; needed_bound = p.needed_bound; stride_value = (p.stride_value.0, p.stride_value.1 ∙ sym l.invariant.1.1.1.long); n_bound = (omega (arith, m.0, p.n_bound.0), p.n_bound.1); n_in_bounds = (omega (arith, m.1.0, p.in_bounds.0, l.invariant.1.0), omega (arith, m.1.0, p.in_bounds.1, l.invariant.1.1.0)) }
+    record { table_len = p.table_len; needed_bound = p.needed_bound; stride_value = (p.stride_value.0, p.stride_value.1 ∙ sym l.invariant.1.1.1.long); n_bound = (omega (arith, c.min-m.ensures, p.n_bound.0), p.n_bound.1); n_in_bounds = (omega (arith, c.min-m.ensures, p.in_bounds.0, l.invariant.1.0), omega (arith, c.min-m.ensures, p.in_bounds.1, l.invariant.1.1.0)) }
 
 pub overflow_add-f : goal.overflow_add-f
-overflow_add-f c = omega (arith, c.at_most_32-m.ensures.0)
+overflow_add-f c = omega (arith, c.min-m.ensures)
 
 pub loop-f-smaller : goal.loop-f-smaller
-loop-f-smaller c = let m = c.at_most_32-m.ensures in omega (arith, m.0, m.1.1 (omega arith))
+loop-f-smaller c = omega (arith, c.min-m.ensures)
 
 pub loop-f-preserved : goal.loop-f-preserved
 loop-f-preserved c = let l = c.loop-f in
-    let m = c.at_most_32-m in
+    let m = c.min-m in
     let r = c.run_part-moment in
-    (omega (arith, m.ensures.0), (r.auto.places ∙ l.invariant.1.0, (r.auto.fracs ∙ l.invariant.1.1.0, ran_more _ c.args.table.now _ _ c.args.work.now _ _ _ _ c.args.at c.args.share c.args.channels c.args.out.now l.out _ l.moment r.result l.f m.result l.invariant.1.1.1 (omega (arith, c.requires.stride_value.1)) (omega (arith, m.ensures.0, c.requires.n_bound.0)) r.auto.out r.ensures.after r.ensures.ran)))
+    (omega (arith, m.ensures), (r.auto.places ∙ l.invariant.1.0, (r.auto.fracs ∙ l.invariant.1.1.0, ran_more _ c.args.table.now _ _ c.args.work.now _ _ _ _ c.args.at c.args.share c.args.channels c.args.out.now l.out _ l.moment r.result l.f m.result l.invariant.1.1.1 (omega (arith, c.requires.stride_value.1)) (omega (arith, m.ensures, c.requires.n_bound.0)) r.auto.out r.ensures.after r.ensures.ran)))
 
 pub shape_of-out : goal.shape_of-out
 shape_of-out c = c.loop-f.invariant.1.1.1.long
