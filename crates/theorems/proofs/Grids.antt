@@ -20,9 +20,9 @@ use Rattle.interpolation.proofs.Points.{point_equation}
 use Rattle.asynchro_sinc.specs.declared.SincInterpolationType.{SincInterpolationType}
 use Rattle.asynchro_sinc.specs.declared.SincInterpolationType.TheVariants.{Nearest, Linear, Quadratic, Cubic}
 use Rattle.grid_places.specs.declared.Spot.{Spot}
-use Rattle.grid_places.specs.declared.Spot.TheVariants.{Held, Lost}
+use Rattle.std.specs.Prelude.{Option, Some, None}
 use Rattle.grid_places.specs.declared.Spots.{Spots}
-use Rattle.grid_places.specs.Spots.{within, spot_from, spot_of, grid_of, blend_place, nth, blended, spots_said, spots_of, is_held, all_held}
+use Rattle.grid_places.specs.Spots.{spot, within, spot_from, spot_of, grid_of, blend_place, nth, blended, spots_said, spots_of, is_held, all_held}
 use Rattle.grid_places.proofs.Grid.{points_of, number_of, offsets_of, range_points, held_given}
 use Rattle.sinc_value.specs.Values.{point_value, spots_value}
 use Rattle.theorems.specs.Block.{first_of, final_of, point_at, blend_of, PointInside, GridOutside, GridFrame}
@@ -30,18 +30,18 @@ use Rattle.theorems.proofs.Each.{first_hold, each_holds, some_fails}
 
 -- ---- one grid point
 -- a spot that is held is the first sample's place with the row
-pub record Started (points needed : ℕ) (p : Point) (spot : Spot) : Type 0 where
+pub record Started (points needed : ℕ) (p : Point) (o : Option Spot) : Type 0 where
   pub start : ℕ
-  pub is : spot ≡ Held start p.subindex
+  pub is : o ≡ Some (spot start p.subindex)
   pub begins : Same (start, 0) (first_of points p)
   pub ends : start + points ≤ 2 * points + needed
 
-held_within : (b : Bool) (start row : ℕ) → is_held (within b (Held start row)) ≡ true → (b ≡ true) × (within b (Held start row) ≡ Held start row)
+held_within : (b : Bool) (start row : ℕ) → is_held (within b start row) ≡ true → (b ≡ true) × (within b start row ≡ Some (spot start row))
 held_within true start row h = (refl, refl)
 held_within false start row h = absurd (false≢true h)
 
 module _ (points needed : ℕ) where
-  abbrev spot_at : Point → Spot
+  abbrev spot_at : Point → Option Spot
   spot_at = spot_of (2 * points) (points + needed)
 
   -- the samples of a grid point lie below 0 or at or past 2L + needed input
@@ -72,7 +72,7 @@ module _ (points needed : ℕ) where
   unfolding spot_from
   out_else p h = go p.index refl h
     where
-      lost : (b : Bool) (start row : ℕ) → is_held (within b (Held start row)) ≡ false → b ≡ false
+      lost : (b : Bool) (start row : ℕ) → is_held (within b start row) ≡ false → b ≡ false
       lost true start row h = h
       lost false start row h = refl
 
@@ -97,7 +97,7 @@ points_many Linear x factor = refl
 points_many Quadratic x factor = refl
 points_many Cubic x factor = refl
 
-blended_held : (blend : SincInterpolationType) (spots : List Spot) (y : Float) → all_held (blended blend spots y) ≡ first_hold (λ k. is_held (nth spots k)) (many blend)
+blended_held : (blend : SincInterpolationType) (spots : List (Option Spot)) (y : Float) → all_held (Some (blended blend spots y)) ≡ first_hold (λ k. is_held (nth spots k)) (many blend)
 blended_held Nearest spots y = refl
 blended_held Linear spots y = refl
 blended_held Quadratic spots y = refl
@@ -113,14 +113,14 @@ module _ (points factor : ℕ) (blend : SincInterpolationType) (needed : ℕ) (x
   abbrev grid : List Point
   grid = points_of blend x factor
 
-  abbrev spots : List Spot
+  abbrev spots : List (Option Spot)
   spots = map (spot_at points needed) grid
 
-  abbrev lying : Spots
+  abbrev lying : Option Spots
   lying = spots_of blend factor (2 * points) (points + needed) x
 
   spot_is : (k : ℕ) → k < length grid → nth spots k ≡ spot_at points needed (point_at grid k)
-  spot_is k l = map_at (spot_at points needed) grid k _ Lost l
+  spot_is k l = map_at (spot_at points needed) grid k _ None l
 
   -- where the grid functions give points, the spots are all held just where each is
   given_held : grid_of blend x factor ≡ given grid → all_held lying ≡ first_hold (λ k. is_held (nth spots k)) (length grid)
@@ -133,7 +133,7 @@ module _ (points factor : ℕ) (blend : SincInterpolationType) (needed : ℕ) (x
     points_given = held_given blend x factor (2 * points) (points + needed) h
 
     point_held : (k : ℕ) → k < length grid → is_held (spot_at points needed (point_at grid k)) ≡ true
-    point_held k l = subst (λ (a : Spot). is_held a ≡ true) (spot_is k l) (each_holds (λ k. is_held (nth spots k)) (length grid) (sym (given_held points_given) ∙ h) k l)
+    point_held k l = subst (λ (a : Option Spot). is_held a ≡ true) (spot_is k l) (each_holds (λ k. is_held (nth spots k)) (length grid) (sym (given_held points_given) ∙ h) k l)
 
     point_started : (k : ℕ) → k < length grid → Started points needed (point_at grid k) (spot_at points needed (point_at grid k))
     point_started k l = started points needed (point_at grid k) (point_held k l)
@@ -148,7 +148,7 @@ module _ (points factor : ℕ) (blend : SincInterpolationType) (needed : ℕ) (x
         are = g;
         k = f.0;
         among = f.1;
-        out = out_else points needed (point_at grid f.0) (subst (λ (a : Spot). is_held a ≡ false) (spot_is f.0 f.1) f.2);
+        out = out_else points needed (point_at grid f.0) (subst (λ (a : Option Spot). is_held a ≡ false) (spot_is f.0 f.1) f.2);
       }
 
   pub outside_grid : GridOutside points factor blend needed x → all_held lying ≡ false
@@ -162,14 +162,14 @@ module _ (points factor : ℕ) (blend : SincInterpolationType) (needed : ℕ) (x
           (point_held e o.k (subst (λ (ps : List Point). o.k < length ps) same o.among)))
 
   -- ---- the frame
-  abbrev place_in : Spot → ℕ
-  place_in (Held start row) = start
-  place_in Lost = 0
+  abbrev place_in : Option Spot → ℕ
+  place_in (Some a) = a.start
+  place_in None = 0
 
-  place_is : (p : Point) (spot : Spot) → Started points needed p spot → spot ≡ Held (place_in spot) p.subindex
-  place_is p spot k = k.is ∙ ap (λ (n : ℕ). Held n p.subindex) (sym (ap place_in k.is))
+  place_is : (p : Point) (o : Option Spot) → Started points needed p o → o ≡ Some (spot (place_in o) p.subindex)
+  place_is p o k = k.is ∙ ap (λ (n : ℕ). Some (spot n p.subindex)) (sym (ap place_in k.is))
 
-  point_inside : (p : Point) (spot : Spot) → Started points needed p spot → p.subindex < factor → PointInside points factor needed p (place_in spot)
+  point_inside : (p : Point) (o : Option Spot) → Started points needed p o → p.subindex < factor → PointInside points factor needed p (place_in o)
   point_inside p spot k l =
       let e : place_in spot ≡ k.start = ap place_in k.is in
       record { begins = omega (arith, e, k.begins); ends = omega (arith, e, k.ends); row = l }
@@ -183,7 +183,7 @@ module _ (points factor : ℕ) (blend : SincInterpolationType) (needed : ℕ) (x
     abbrev values : SincInterpolationType → List Float
     values blend = map (point_value points table work) (map (spot_at points needed) (points_of blend x factor))
 
-    blend_is : (blend : SincInterpolationType) (y : Float) → spots_value points table work (blended blend (map (spot_at points needed) (points_of blend x factor)) y) ≡ blend_of blend y (values blend)
+    blend_is : (blend : SincInterpolationType) (y : Float) → spots_value points table work (Some (blended blend (map (spot_at points needed) (points_of blend x factor)) y)) ≡ blend_of blend y (values blend)
     blend_is Nearest y = refl
     blend_is Linear y = refl
     blend_is Quadratic y = refl
@@ -199,7 +199,7 @@ module _ (points factor : ℕ) (blend : SincInterpolationType) (needed : ℕ) (x
           values = values blend;
           long = length-map spots (point_value points table work) ∙ length-map grid (spot_at points needed);
           each = λ k l.
-              map_at (point_value points table work) spots k Lost nan (rw (length-map grid (spot_at points needed)) l)
+              map_at (point_value points table work) spots k None nan (rw (length-map grid (spot_at points needed)) l)
               ∙ ap (point_value points table work) (spot_is k l ∙ place_is (point_at grid k) _ (point_started h k l));
           value =
               e ∙ ap (λ (said : Said (List Point)). spots_value points table work (spots_said blend (2 * points) (points + needed) (blend_place x factor) said)) (points_given h)

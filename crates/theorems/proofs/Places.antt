@@ -22,8 +22,8 @@ use Rattle.asynchro_fast.specs.declared.PolynomialDegree.{PolynomialDegree}
 use Rattle.asynchro_fast.specs.Degrees.{points_of, before_of}
 use Rattle.asynchro_fast.proofs.Laws.{before_points}
 use Rattle.path.specs.declared.Place.{Place}
-use Rattle.path.specs.declared.Place.TheVariants.{At}
-use Rattle.path.specs.Places.{within, place_from, place_of, is_at, shift_of, last_of}
+use Rattle.std.specs.Prelude.{Option, Some}
+use Rattle.path.specs.Places.{place_at, within, place_from, place_of, is_at, shift_of, last_of}
 use Rattle.path.proofs.Bounds.{Placed}
 use Rattle.theorems.specs.Block.{Floor, first_from, last_from}
 
@@ -89,22 +89,22 @@ module _ (degree : PolynomialDegree) (needed : ℕ) (x : Float) (k : Whole) (fl 
 cut_is : (m : ℕ) (e : ℤ) (n : ℕ) → m * up e * 1 ≡ n * down e → m * up e / down e ≡ n
 cut_is m e n h = ap (λ (a : ℕ). a / down e) (sym (mul-one (m * up e)) ∙ h) ∙ mul-div_cancel n (down_pos e)
 
-plain_is : (shift last : ℕ) (y frac : Float) (n : ℕ) → HasValue y false n 1 → place_from shift last y frac ≡ within (leb (n + shift) last) (At (n + shift) frac)
+plain_is : (shift last : ℕ) (y frac : Float) (n : ℕ) → HasValue y false n 1 → place_from shift last y frac ≡ within (leb (n + shift) last) (place_at (n + shift) frac)
 unfolding place_from
 plain_is shift last nan frac n v = absurd v
 plain_is shift last (inf s) frac n v = absurd v
 plain_is shift last (fin true m e) frac n v = absurd (true≢false v.0)
-plain_is shift last (fin false m e) frac n v = ap (λ (j : ℕ). within (leb (j + shift) last) (At (j + shift) frac)) (cut_is m e n v.1)
+plain_is shift last (fin false m e) frac n v = ap (λ (j : ℕ). within (leb (j + shift) last) (place_at (j + shift) frac)) (cut_is m e n v.1)
 
-minus_is : (shift last : ℕ) (y frac : Float) (n : ℕ) → HasValue y true n 1 → place_from shift last y frac ≡ within (leb n shift && leb (shift - n) last) (At (shift - n) frac)
+minus_is : (shift last : ℕ) (y frac : Float) (n : ℕ) → HasValue y true n 1 → place_from shift last y frac ≡ within (leb n shift && leb (shift - n) last) (place_at (shift - n) frac)
 unfolding place_from
 minus_is shift last nan frac n v = absurd v
 minus_is shift last (inf s) frac n v = absurd v
 minus_is shift last (fin false m e) frac n v = absurd (false≢true v.0)
-minus_is shift last (fin true m e) frac n v = ap (λ (j : ℕ). within (leb j shift && leb (shift - j) last) (At (shift - j) frac)) (cut_is m e n v.1)
+minus_is shift last (fin true m e) frac n v = ap (λ (j : ℕ). within (leb j shift && leb (shift - j) last) (place_at (shift - j) frac)) (cut_is m e n v.1)
 
 -- the test passed
-within_is : (b : Bool) (p q : Place) → q ≡ within b p → is_at q ≡ true → (b ≡ true) × (q ≡ p)
+within_is : (b : Bool) (p : Place) (q : Option Place) → q ≡ within b p → is_at q ≡ true → (b ≡ true) × (q ≡ Some p)
 within_is true p q e h = (refl, e)
 within_is false p q e h = absurd (false≢true (sym (ap is_at e) ∙ h))
 
@@ -115,7 +115,7 @@ pub record Found (shift last : ℕ) (x : Float) : Type 0 where
   pub place : ℕ
   pub same : Same (place, shift) floor
   pub most : place ≤ last
-  pub at : place_of shift last x ≡ At place (split_of x).frac
+  pub at : place_of shift last x ≡ Some (place_at place (split_of x).frac)
 
 plain_units : (U n : ℕ) → Same (n * U, 0) (U ⊙ (n, 0))
 plain_units U n = omega arith
@@ -131,7 +131,7 @@ found shift last (fin false m e) t h =
     let x = fin false m e in
     let n = part_div (m * up e) (down e) in
     let v = next_value binary64 false m e n t (part_next (m * up e) (down e)) in
-    let w = within_is (leb (n + shift) last) (At (n + shift) (split_of x).frac) (place_of shift last x) (plain_is shift last (whole_f false n) (split_of x).frac n (whole_f_value false n v)) h in
+    let w = within_is (leb (n + shift) last) (place_at (n + shift) (split_of x).frac) (place_of shift last x) (plain_is shift last (whole_f false n) (split_of x).frac n (whole_f_value false n v)) h in
     record {
       floor = (n, 0);
       is = floor_at x (tt, t) (n, 0) (subst (λ (z : Whole). Same z (2 ^ low binary64 ⊙ (n, 0))) (sym (whole_exact false n v)) (plain_units (2 ^ low binary64) n));
@@ -144,7 +144,7 @@ found shift last (fin true m e) t h =
     let x = fin true m e in
     let n = over_div (m * up e) (down e) in
     let v = next_value binary64 true m e n t (over_next (m * up e) (down e)) in
-    let w = within_is (leb n shift && leb (shift - n) last) (At (shift - n) (split_of x).frac) (place_of shift last x) (minus_is shift last (whole_f true n) (split_of x).frac n (whole_f_value true n v)) h in
+    let w = within_is (leb n shift && leb (shift - n) last) (place_at (shift - n) (split_of x).frac) (place_of shift last x) (minus_is shift last (whole_f true n) (split_of x).frac n (whole_f_value true n v)) h in
     let b = (and-eq-true_iff (leb n shift) (leb (shift - n) last)).0 w.0 in
     let low_enough = leb-true n shift b.0 in
     record {
