@@ -31,5 +31,9 @@ pub fn kept_of(s: State, raw: bool, used: u64, ended: bool, total: u64) -> KeptF
     if raw {
         return whole_block(s);
     }
-    cut::kept(s, used.saturating_add(ahead(s.kind)), ended.then_some(total))
+    cut::kept(
+        s,
+        used.saturating_add(ahead(s.kind)),
+        ended.then_some(total),
+    )
 }

@@ -37,7 +37,11 @@ fn with(line: Line, takes: Option<Takes>, word: Word) -> Line {
     then.good = false;
     if let Some(n) = value_of(takes, word) {
         if k < 16 {
-            let places = if takes == Some(Takes::Kind) && !sinc { 4 } else { 1 };
+            let places = if takes == Some(Takes::Kind) && !sinc {
+                4
+            } else {
+                1
+            };
             then.values[k] = n;
             then.count = k + places;
             then.good = line.good;
