@@ -1,5 +1,5 @@
 // How an answer is put into a buffer, a space before each word but the first.
-use crate::said::{Head, Said};
+use crate::said::{Head, Said, Word};
 use printer::{front_of, put_area, put_bits, put_byte, put_bytes, put_decimal};
 
 // The first word, at the start of the buffer.
@@ -12,46 +12,34 @@ fn put_head(out: &mut [u8], head: Head) -> usize {
     }
 }
 
-// The size of a number below 0.
-fn put_below(out: &mut [u8], at: usize, n: u64) -> usize {
-    let p = put_byte(out, at, 45);
-    put_decimal(out, p, n)
-}
-
 // An area's first samples.
 fn put_front(out: &mut [u8], at: usize, area: &[f64], n: usize) -> usize {
     let k = front_of(area, n);
     put_area(out, at, &area[..k])
 }
 
-// A word that stands by itself.
-fn put_apart(out: &mut [u8], at: usize, kind: u8, n: u64, area: &[f64]) -> usize {
-    let p = put_byte(out, at, 32);
-    match kind {
-        1 => put_bits(out, p, text::of_bits(n)),
-        3 => put_decimal(out, p, n),
-        4 => put_below(out, p, n),
-        _ => put_front(out, p, area, n as usize),
+fn put_word(out: &mut [u8], at: usize, word: Word, area: &[f64]) -> usize {
+    if let Word::Joined(x) = word {
+        return put_bits(out, at, x);
     }
-}
-
-fn put_word(out: &mut [u8], at: usize, kind: u8, n: u64, area: &[f64]) -> usize {
-    match kind {
-        0 => at,
-        2 => put_bits(out, at, text::of_bits(n)),
-        _ => put_apart(out, at, kind, n, area),
+    let p = put_byte(out, at, b' ');
+    match word {
+        Word::Float(x) | Word::Joined(x) => put_bits(out, p, x),
+        Word::Whole(n) => put_decimal(out, p, n),
+        Word::Below(n) => {
+            let digits = put_byte(out, p, b'-');
+            put_decimal(out, digits, n)
+        }
+        Word::Area(n) => put_front(out, p, area, n),
     }
 }
 
 // The whole answer to a line, at the start of the buffer; how many bytes it has, 0 where there is no
 // line. The samples that it shows are the first of `area`.
 pub fn put_answer(out: &mut [u8], said: Said, area: &[f64]) -> usize {
-    let head = said.head;
-    let kinds = said.kinds;
-    let numbers = said.numbers;
-    let mut at = put_head(out, head);
-    for k in 0..18 {
-        at = put_word(out, at, kinds[k], numbers[k], area);
+    let mut at = put_head(out, said.head);
+    for word in said.words.iter().flatten() {
+        at = put_word(out, at, *word, area);
     }
     at
 }

@@ -57,30 +57,16 @@ fn point(said: Said, p: Point) -> Said {
     whole(signed(said, p.index), p.subindex)
 }
 
-fn near_1(t: f64, factor: u64) -> Said {
-    match interpolation::get_nearest_time(t, factor) {
-        Ok(a) => point(ok(), a),
-        Err(r) => refused(r),
-    }
-}
-
-fn near_2(t: f64, factor: u64) -> Said {
-    match interpolation::get_nearest_times_2(t, factor) {
-        Ok([a, b]) => point(point(ok(), a), b),
-        Err(r) => refused(r),
-    }
-}
-
-fn near_3(t: f64, factor: u64) -> Said {
-    match interpolation::get_nearest_times_3(t, factor) {
-        Ok([a, b, c]) => point(point(point(ok(), a), b), c),
-        Err(r) => refused(r),
-    }
-}
-
-fn near_4(t: f64, factor: u64) -> Said {
-    match interpolation::get_nearest_times_4(t, factor) {
-        Ok([a, b, c, d]) => point(point(point(point(ok(), a), b), c), d),
+// The points of the grid that lie nearest, as many as were asked for.
+fn points<const N: usize>(answer: Result<[Point; N], Refusal>) -> Said {
+    match answer {
+        Ok(nearest) => {
+            let mut said = ok();
+            for p in &nearest {
+                said = point(said, *p);
+            }
+            said
+        }
         Err(r) => refused(r),
     }
 }
@@ -90,10 +76,10 @@ pub fn near(values: Values) -> Said {
     let t = float_at(values, 1);
     let factor = number_at(values, 2);
     match n {
-        1 => near_1(t, factor),
-        2 => near_2(t, factor),
-        3 => near_3(t, factor),
-        _ => near_4(t, factor),
+        1 => points(interpolation::get_nearest_time(t, factor).map(|p| [p])),
+        2 => points(interpolation::get_nearest_times_2(t, factor)),
+        3 => points(interpolation::get_nearest_times_3(t, factor)),
+        _ => points(interpolation::get_nearest_times_4(t, factor)),
     }
 }
 

@@ -1,5 +1,5 @@
 // What is kept, and the commands on the record and the working area.
-use crate::said::{Said, area, count, number_in, ok, refused};
+use crate::said::{Said, area, count, ok, refused};
 use crate::shown::with_state;
 use asynchro::Outcome;
 use asynchro_fast::PolynomialDegree;
@@ -103,7 +103,7 @@ pub fn area_length(channels: usize, most: usize, l: usize) -> usize {
 
 // Zeros for a new record; how many there are.
 fn zeroed(s: State, work: &mut [f64]) -> usize {
-    let most = number_in(questions::input_frames_max(s));
+    let most = questions::input_frames_max(s).unwrap_or(0);
     let l = state::points_in(s);
     let n = front_of(work, area_length(s.channels, most, l));
     area::zero_all(&mut work[..n]);

@@ -13,24 +13,33 @@ pub enum Head {
     Ok,
 }
 
-// An answer: its first word, and a kind and a number for each of the `count` words after it. The kinds:
-// 1 a float, by its bits; 2 a float that is put behind the one before it, as the samples of an area are;
-// 3 a whole number; 4 one below 0, by its size; 5 the first so many samples of an area that is lent
-// beside. Behind the last word stands 0. A block's answer has the most words.
+// A word behind the first.
+#[derive(Clone, Copy)]
+pub enum Word {
+    Float(f64),
+    // A float that is put behind the one before it, as the samples of an area are.
+    Joined(f64),
+    Whole(u64),
+    // One below 0, by its size.
+    Below(u64),
+    // The first so many samples of an area that is lent beside.
+    Area(usize),
+}
+
+// A block's answer has the most words.
+const MOST: usize = 18;
+
+// An answer: its first word, and the words behind it, which stand first among their places.
 #[derive(Clone, Copy)]
 pub struct Said {
     pub head: Head,
-    pub count: usize,
-    pub kinds: [u8; 18],
-    pub numbers: [u64; 18],
+    pub words: [Option<Word>; MOST],
 }
 
 pub fn begun(head: Head) -> Said {
     Said {
         head,
-        count: 0,
-        kinds: [0; 18],
-        numbers: [0; 18],
+        words: [None; MOST],
     }
 }
 
@@ -38,60 +47,59 @@ pub fn ok() -> Said {
     begun(Head::Ok)
 }
 
-// One word more.
-fn and(said: Said, kind: u8, number: u64) -> Said {
+// One word more, where there is a place for it.
+fn and(said: Said, word: Word) -> Said {
     let mut then = said;
-    let k = said.count;
-    if k < 18 {
-        then.kinds[k] = kind;
-        then.numbers[k] = number;
-        then.count = k + 1;
+    for place in then.words.iter_mut() {
+        if place.is_none() {
+            *place = Some(word);
+            break;
+        }
     }
     then
 }
 
 pub fn float(said: Said, x: f64) -> Said {
-    and(said, 1, text::bits_of(x))
+    and(said, Word::Float(x))
 }
 
-// A float behind the one before it.
 pub fn joined(said: Said, x: f64) -> Said {
-    and(said, 2, text::bits_of(x))
+    and(said, Word::Joined(x))
 }
 
 pub fn whole(said: Said, n: u64) -> Said {
-    and(said, 3, n)
+    and(said, Word::Whole(n))
 }
 
 pub fn count(said: Said, n: usize) -> Said {
-    and(said, 3, n as u64)
+    whole(said, n as u64)
 }
 
 pub fn signed(said: Said, z: i64) -> Said {
-    if z < 0 {
-        return and(said, 4, text::size_of(z));
-    }
-    and(said, 3, text::size_of(z))
+    let size = text::size_of(z);
+    and(
+        said,
+        if z < 0 {
+            Word::Below(size)
+        } else {
+            Word::Whole(size)
+        },
+    )
 }
 
 // So many samples.
 pub fn area(said: Said, n: usize) -> Said {
-    and(said, 5, n as u64)
-}
-
-fn float_if(said: Said, x: f64, there: bool) -> Said {
-    if there { float(said, x) } else { said }
+    and(said, Word::Area(n))
 }
 
 // A refusal's number and floats.
 pub fn refused(r: Refusal) -> Said {
     let carried = error::values(r);
-    let values = carried.values;
-    let count = carried.count;
-    let s1 = whole(begun(Head::Refused), error::number(r));
-    let s2 = float_if(s1, values[0], count > 0);
-    let s3 = float_if(s2, values[1], count > 1);
-    float_if(s3, values[2], count > 2)
+    let mut said = whole(begun(Head::Refused), error::number(r));
+    for x in carried.values.iter().take(carried.count) {
+        said = float(said, *x);
+    }
+    said
 }
 
 // A leaf's answer.
@@ -100,16 +108,4 @@ pub fn said_of(answer: Result<f64, Refusal>) -> Said {
         Ok(x) => float(ok(), x),
         Err(r) => refused(r),
     }
-}
-
-// The value of an accepted question, and the number of one.
-pub fn value_in(answer: Result<f64, Refusal>) -> f64 {
-    match answer {
-        Ok(x) => x,
-        Err(_) => 0.0,
-    }
-}
-
-pub fn number_in(answer: Result<usize, Refusal>) -> usize {
-    answer.unwrap_or(0)
 }

@@ -1,11 +1,11 @@
 // What is said of a record.
-use crate::said::{Said, count, float, number_in, ok, refused, value_in};
+use crate::said::{Said, count, float, ok, refused};
 use state::State;
 
 // max-in max-out
 fn maxima(said: Said, s: State) -> Said {
-    let with = count(said, number_in(questions::input_frames_max(s)));
-    count(with, number_in(questions::output_frames_max(s)))
+    let with = count(said, questions::input_frames_max(s).unwrap_or(0));
+    count(with, questions::output_frames_max(s).unwrap_or(0))
 }
 
 // channels chunk construction-chunk needed-in needed-out
@@ -38,9 +38,9 @@ pub fn questions(s: State) -> Said {
     match questions::input_frames_next(s) {
         Ok(n) => {
             let s1 = count(ok(), n);
-            let s2 = count(s1, number_in(questions::output_frames_next(s)));
-            let s3 = float(maxima(s2, s), value_in(questions::resample_ratio(s)));
-            count(s3, number_in(questions::output_delay(s)))
+            let s2 = count(s1, questions::output_frames_next(s).unwrap_or(0));
+            let s3 = float(maxima(s2, s), questions::resample_ratio(s).unwrap_or(0.0));
+            count(s3, questions::output_delay(s).unwrap_or(0))
         }
         Err(r) => refused(r),
     }
@@ -49,7 +49,7 @@ pub fn questions(s: State) -> Said {
 // step-now step-then
 pub fn step_questions(s: State) -> Said {
     match questions::input_step_now(s) {
-        Ok(x) => float(float(ok(), x), value_in(questions::input_step_then(s))),
+        Ok(x) => float(float(ok(), x), questions::input_step_then(s).unwrap_or(0.0)),
         Err(r) => refused(r),
     }
 }
