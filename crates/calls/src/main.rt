@@ -19,7 +19,7 @@ fn written(sys: &mut System, out: &mut [u8], end: usize) -> bool {
     sys.write_all(OUTPUT, &out[..n])
 }
 
-// Nothing says that the input ends, so the turns are counted down from a number that no run uses up.
+// Nothing says that the input ends, so it may have as many lines as can be counted.
 fn serve_all(
     sys: &mut System,
     buf: &mut [u8],
@@ -31,12 +31,11 @@ fn serve_all(
     bytes: &mut [u8],
 ) {
     let mut s = begin();
-    let mut going = true;
-    let mut turns = u64::MAX;
-    while turns > 0 && going {
+    for _ in 0..u64::MAX {
         s = serve(sys, s, buf, out, input, output, work, table, bytes);
-        going = written(sys, out, s.end);
-        turns -= 1;
+        if !written(sys, out, s.end) {
+            return;
+        }
     }
 }
 
