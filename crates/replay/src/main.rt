@@ -12,44 +12,26 @@ use printer::front_of;
 use report::{Tally, none_yet, print, with};
 use system::System;
 
-// What is kept from line to line. `going` is false once the list is over.
-#[derive(Clone, Copy)]
-struct Replayed {
+// The tally with the answer of a line, of which `end` bytes stand in `out`: the stored one stands next in the
+// input. The input behind it is kept.
+fn checked(
+    sys: &mut System,
     served: Served,
     tally: Tally,
-    going: bool,
-}
-
-// The stored answer, which stands next in the input, beside the port's. There is none once the list is
-// over.
-fn checked(sys: &mut System, s: Served, tally: Tally, buf: &mut [u8], out: &[u8]) -> Replayed {
-    if s.end == 0 {
-        return Replayed {
-            served: s,
-            tally,
-            going: false,
-        };
-    }
-    let n = front_of(out, s.end);
-    let from = s.input;
-    let found = compare(sys, buf, from, &out[..n]);
-    let kept = s.kept;
-    let live = s.live;
-    let input = found.input;
-    let served = Served {
-        kept,
-        live,
-        input,
-        end: s.end,
+    buf: &mut [u8],
+    out: &[u8],
+) -> (Served, Tally) {
+    let n = front_of(out, served.end);
+    let found = compare(sys, buf, served.input, &out[..n]);
+    let behind = Served {
+        input: found.input,
+        ..served
     };
-    Replayed {
-        served,
-        tally: with(tally, found.of_crate, found.same),
-        going: true,
-    }
+    (behind, with(tally, found.of_crate, found.same))
 }
 
-// Nothing says that the list ends, so the turns are counted down from a number that no run uses up.
+// Nothing says that the list ends, so it may have as many lines as can be counted. There is no answer once it is
+// over.
 fn replay(
     sys: &mut System,
     buf: &mut [u8],
@@ -60,20 +42,16 @@ fn replay(
     table: &mut [f64],
     bytes: &mut [u8],
 ) -> Tally {
-    let mut r = Replayed {
-        served: begin(),
-        tally: none_yet(),
-        going: true,
-    };
-    let mut going = true;
-    let mut turns = u64::MAX;
-    while turns > 0 && going {
-        let served = serve(sys, r.served, buf, out, input, output, work, table, bytes);
-        r = checked(sys, served, r.tally, buf, out);
-        going = r.going;
-        turns -= 1;
+    let mut s = begin();
+    let mut tally = none_yet();
+    for _ in 0..u64::MAX {
+        s = serve(sys, s, buf, out, input, output, work, table, bytes);
+        if s.end == 0 {
+            break;
+        }
+        (s, tally) = checked(sys, s, tally, buf, out);
     }
-    r.tally
+    tally
 }
 
 // An answer that is longer than the buffer counts as another one.
