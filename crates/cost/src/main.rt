@@ -30,8 +30,8 @@ fn sample(k: usize) -> f64 {
 // The first n samples of an area, or as many as there are.
 fn fill(area: &mut [f64], n: usize) {
     let end = front_of(area, n);
-    for k in 0..end {
-        area[k] = sample(k);
+    for (k, x) in area[..end].iter_mut().enumerate() {
+        *x = sample(k);
     }
 }
 
@@ -65,10 +65,8 @@ fn run(
         state: first,
         good: true,
     };
-    let mut k = 0;
-    while k < blocks {
+    for _ in 0..blocks {
         t = block(t, table, input, output, work);
-        k += 1;
     }
     t
 }

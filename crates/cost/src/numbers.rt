@@ -22,7 +22,7 @@ fn with(r: Reading, byte: u8) -> Reading {
     let at = r.at;
     let mut next = r;
     if at < 16 {
-        if (48 <= byte) & (byte < 58) {
+        if byte.is_ascii_digit() {
             next.values[at] = with_digit(r.values[at], byte);
         } else {
             next.at = at + 1;
@@ -37,8 +37,8 @@ fn numbers_in(text: &[u8]) -> Values {
         values: [0; 16],
         at: 0,
     };
-    for k in 0..text.len() {
-        r = with(r, text[k]);
+    for byte in text {
+        r = with(r, *byte);
     }
     r.values
 }
