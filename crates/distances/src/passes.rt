@@ -55,10 +55,8 @@ fn run(
     work: &mut [f64],
 ) -> Account {
     let mut a = opened;
-    let mut k = 0;
-    while k < blocks {
+    for k in 0..blocks {
         a = crate::account::block(set(number, k, a), input, output, work);
-        k += 1;
     }
     a
 }
