@@ -36,60 +36,61 @@ fn set_fourth(k: u64, a: Account) -> Account {
     crate::account::set(a, asynchro::set_resample_ratio_relative(s, rel, false))
 }
 
-// The setting before the block k, if the pass has one there.
-fn set(number: u64, k: u64, a: Account) -> Account {
-    match number {
-        1 => set_first(k, a),
-        3 => set_third(k, a),
-        4 => set_fourth(k, a),
-        _ => a,
-    }
-}
-
-fn run(
-    number: u64,
+// The blocks, before each of which the pass sets what it has to set there.
+fn run<F: Fn(u64, Account) -> Account>(
+    set: F,
     opened: Account,
     blocks: u64,
     input: &[f64],
     output: &mut [f64],
     work: &mut [f64],
-) -> Account {
+) -> Account
+    requires { F.IsAlwaysCallable set }
+{
     let mut a = opened;
     for k in 0..blocks {
-        a = crate::account::block(set(number, k, a), input, output, work);
+        a = crate::account::block(set(k, a), input, output, work);
     }
     a
 }
 
 // The blocks on the first n samples of the working area.
-fn run_on(
-    number: u64,
+fn run_on<F: Fn(u64, Account) -> Account>(
+    set: F,
     opened: Account,
     blocks: u64,
     input: &[f64],
     output: &mut [f64],
     work: &mut [f64],
     n: usize,
-) -> Account {
+) -> Account
+    requires { F.IsAlwaysCallable set }
+{
     if n <= work.len() {
-        return run(number, opened, blocks, input, output, &mut work[..n]);
+        return run(set, opened, blocks, input, output, &mut work[..n]);
     }
     opened
 }
 
-fn started(
+// A pass by its number, its record, its blocks and their settings.
+fn pass<F: Fn(u64, Account) -> Account>(
     sys: &mut System,
     number: u64,
-    s: State,
+    made: Result<State, Refusal>,
     blocks: u64,
+    set: F,
     input: &[f64],
     output: &mut [f64],
     work: &mut [f64],
-) {
-    let n = lent::work_length(s);
-    let opened = crate::account::opened(s);
-    let a = run_on(number, opened, blocks, input, output, work, n);
-    crate::report::print(sys, number, a);
+)
+    requires { F.IsAlwaysCallable set }
+{
+    if let Ok(s) = made {
+        let n = lent::work_length(s);
+        let opened = crate::account::opened(s);
+        let a = run_on(set, opened, blocks, input, output, work, n);
+        crate::report::print(sys, number, a);
+    }
 }
 
 // The worst input that a search has found: one block with a ramp.
@@ -118,32 +119,9 @@ fn fourth() -> Result<State, Refusal> {
     construction::new_poly(160.0 / 147.0, 1.05, degree, 441, 1, FixedAsync::Output)
 }
 
-fn made(number: u64) -> Result<State, Refusal> {
-    match number {
-        1 => first(),
-        2 => second(),
-        3 => third(),
-        _ => fourth(),
-    }
-}
-
-fn blocks_of(number: u64) -> u64 {
-    match number {
-        1 => 1,
-        2 => 200,
-        _ => 100,
-    }
-}
-
-fn pass(sys: &mut System, number: u64, input: &[f64], output: &mut [f64], work: &mut [f64]) {
-    if let Ok(s) = made(number) {
-        started(sys, number, s, blocks_of(number), input, output, work);
-    }
-}
-
 pub fn all(sys: &mut System, input: &[f64], output: &mut [f64], work: &mut [f64]) {
-    pass(sys, 1, input, output, work);
-    pass(sys, 2, input, output, work);
-    pass(sys, 3, input, output, work);
-    pass(sys, 4, input, output, work);
+    pass(sys, 1, first(), 1, set_first, input, output, work);
+    pass(sys, 2, second(), 200, |_, a| a, input, output, work);
+    pass(sys, 3, third(), 100, set_third, input, output, work);
+    pass(sys, 4, fourth(), 100, set_fourth, input, output, work);
 }
