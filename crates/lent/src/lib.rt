@@ -32,7 +32,7 @@ pub fn work_length(s: State) -> usize
     ensures { result ≡ work_length s }
 {
     match state::check(s) {
-        Ok(tested) => s.channels * shape::stride_of(tested),
+        Ok(tested) => s.channels * shape::stride_of(shape::measured(tested)),
         Err(_) => 0,
     }
 }

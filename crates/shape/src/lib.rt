@@ -5,7 +5,7 @@
 ghost use Rattle.std.specs.Prelude.{◌≡◌};
 ghost use Rattle.shape.specs.Shape.{read_of, stride_of, work_holds, table_holds, share_holds, shape_holds};
 
-use state::{State, Tested};
+use state::{Measured, State, Tested};
 
 // The smaller of the given count and the needed input.
 pub fn frames_to_read(s: State, frames: usize) -> usize
@@ -14,18 +14,28 @@ pub fn frames_to_read(s: State, frames: usize) -> usize
     frames.min(s.input)
 }
 
-// Samples of one channel in the working area.
-pub fn stride_of(tested: Tested) -> usize
-    ensures { result ≡ stride_of tested.state }
+// A tested record as a measured one.
+pub fn measured(tested: Tested) -> Measured
+    ensures { result.state ≡ tested.state }
 {
-    tested.most.unwrap_or(0) + 2 * state::points_in(tested.state)
+    Measured {
+        state: tested.state,
+        most: tested.most,
+    }
+}
+
+// Samples of one channel in the working area.
+pub fn stride_of(measured: Measured) -> usize
+    ensures { result ≡ stride_of measured.state }
+{
+    measured.most.unwrap_or(0) + 2 * state::points_in(measured.state)
 }
 
 // The working area is of exactly the right length.
 pub fn work_holds(tested: Tested, work: usize) -> bool
     ensures { result ≡ work_holds tested.state work }
 {
-    work == tested.state.channels * stride_of(tested)
+    work == tested.state.channels * stride_of(measured(tested))
 }
 
 // The table is of exactly the right length.

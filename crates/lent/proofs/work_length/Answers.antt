@@ -9,11 +9,11 @@ use Rattle.lent.proofs.work_length.Goals as goal
 
 pub overflow_mul-result : goal.overflow_mul-result
 overflow_mul-result c = let k = check_ok c.args.s c.in-Ok.tested c.in-Ok.ensures in
-    omega (arith, work_fits c.args.s _ k.0 (c.stride_of.ensures ∙ ap stride_of k.1))
+    omega (arith, work_fits c.args.s _ k.0 (c.stride_of.ensures ∙ ap stride_of (c.measured.ensures ∙ k.1)))
 
 pub returns-in-Ok : goal.returns-in-Ok
 returns-in-Ok c = let k = check_ok c.args.s c.in-Ok.tested c.in-Ok.ensures in
-    work_all c.args.s _ k.0 (c.stride_of.ensures ∙ ap stride_of k.1)
+    work_all c.args.s _ k.0 (c.stride_of.ensures ∙ ap stride_of (c.measured.ensures ∙ k.1))
 
 pub returns-in-Err : goal.returns-in-Err
 returns-in-Err c = work_none c.args.s (sym (check_says c.args.s _ c.check.ensures) ∙ ap is_ok c.in-Err.is)
