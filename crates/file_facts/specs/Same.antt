@@ -1,5 +1,5 @@
--- When two facts are of one file, and when they are of a regular one. Definitions only.
-use Rattle.std.specs.Prelude.{Bool, true, false, ◌&&◌, not, eqb, Option, Some, None}
+-- When two facts are of one file, when they are of a regular one, and how large that is. Definitions only.
+use Rattle.std.specs.Prelude.{Bool, true, false, ℕ, cond, ◌&&◌, not, eqb, Option, Some, None}
 use Rattle.file_facts.specs.declared.Kind.{Kind}
 use Rattle.file_facts.specs.declared.Kind.TheVariants.{CharacterDevice, BlockDevice, Regular, Other}
 use Rattle.file_facts.specs.declared.Facts.{Facts}
@@ -39,3 +39,8 @@ same_kept None b = false
 abbrev pub regular : Option Facts → Bool
 regular (Some a) = is_regular_kind a.kind
 regular None = false
+
+-- the size of a regular file, else 0
+abbrev pub size_of : Option Facts → ℕ
+size_of (Some a) = cond (is_regular_kind a.kind) a.size 0
+size_of None = 0

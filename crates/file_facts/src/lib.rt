@@ -7,7 +7,7 @@ mod name;
 mod taken;
 
 ghost use Rattle.std.specs.Prelude.{◌≡◌};
-ghost use Rattle.file_facts.specs.Same.{one_file, same_kept, regular};
+ghost use Rattle.file_facts.specs.Same.{one_file, same_kept, regular, size_of};
 
 use system::{Fd, System};
 use taken::taken;
@@ -75,5 +75,15 @@ pub fn is_regular(a: Option<Facts>) -> bool
     match a {
         Some(a) => matches!(a.kind, Kind::Regular),
         None => false,
+    }
+}
+
+// The size of a regular file, else 0.
+pub fn size_of(a: Option<Facts>) -> u64
+    ensures { result ≡ size_of a }
+{
+    match a {
+        Some(facts) if is_regular(a) => facts.size,
+        _ => 0,
     }
 }

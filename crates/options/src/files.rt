@@ -19,13 +19,6 @@ pub struct Files {
     pub input_bytes: u64,
 }
 
-fn bytes_in(input: Option<Facts>) -> u64 {
-    match input {
-        Some(facts) if file_facts::is_regular(input) => facts.size,
-        _ => 0,
-    }
-}
-
 // A file that is not to be written after all: one that was not there before is removed again.
 fn give_up(sys: &mut System, opened: Opened, place: Place) {
     if opened.made {
@@ -106,7 +99,7 @@ fn with_inputs(
         plan,
         table,
         log_file: false,
-        input_bytes: bytes_in(facts),
+        input_bytes: file_facts::size_of(facts),
     })
 }
 

@@ -1,4 +1,5 @@
 // The words --out, --status and --help, which a program takes beside its own.
+use crate::said::say;
 use system::System;
 
 #[derive(Clone, Copy, PartialEq, Eq)]
@@ -8,10 +9,11 @@ pub enum Name {
     Help,
 }
 
-// What was read so far: the places of the files' names; which of --out and --status wants its file's name next.
+// What was read so far: the program's name; the places of the files' names; which of --out and --status wants its file's name next.
 // `good` is false once a word was bad: the file for the status is known all the same.
 #[derive(Clone, Copy)]
 pub struct Common {
+    pub program: &'static [u8],
     pub out: Option<usize>,
     pub status: Option<usize>,
     pub wants: Option<Name>,
@@ -27,6 +29,11 @@ pub fn is_file(word: &[u8]) -> bool {
     }
 }
 
+// Whether a word can name a file that is read: `-` is standard input.
+pub fn is_input(word: &[u8]) -> bool {
+    is_file(word) | (word == b"-".as_slice())
+}
+
 fn name_of(word: &[u8]) -> Option<Name> {
     match word {
         b"--out" => Some(Name::Out),
@@ -36,14 +43,11 @@ fn name_of(word: &[u8]) -> Option<Name> {
     }
 }
 
-fn say(sys: &mut System, text: &[u8]) {
-    sys.write_all(system::ERROR, text);
-}
-
-impl Default for Common {
-    // Before the first word.
-    fn default() -> Common {
+impl Common {
+    // Before the first word of the program of that name.
+    pub fn new(program: &'static [u8]) -> Common {
         Common {
+            program,
             out: None,
             status: None,
             wants: None,
@@ -51,12 +55,10 @@ impl Default for Common {
             good: true,
         }
     }
-}
 
-impl Common {
     // Says for the program what is wrong with a word, up to the mark that opens it.
-    pub fn bad(self, sys: &mut System, program: &[u8], what: &[u8], word: &[u8]) -> Common {
-        say(sys, program);
+    pub fn bad(self, sys: &mut System, what: &[u8], word: &[u8]) -> Common {
+        say(sys, self.program);
         say(sys, what);
         say(sys, word);
         say(sys, b"'\n");
@@ -67,18 +69,10 @@ impl Common {
     }
 
     // The file's name that was wanted, at the place `at`.
-    fn with_file(
-        self,
-        sys: &mut System,
-        program: &[u8],
-        wanted: Name,
-        at: usize,
-        word: &[u8],
-    ) -> Common {
+    fn with_file(self, sys: &mut System, wanted: Name, at: usize, word: &[u8]) -> Common {
         if !is_file(word) {
             return self.bad(
                 sys,
-                program,
                 b": --out and --status want a file's name of up to 4096 bytes behind them (./-x for -x), and not `",
                 word,
             );
@@ -93,7 +87,7 @@ impl Common {
         s
     }
 
-    fn with_name(self, sys: &mut System, program: &[u8], name: Name, word: &[u8]) -> Common {
+    fn with_name(self, sys: &mut System, name: Name, word: &[u8]) -> Common {
         let given = match name {
             Name::Out => self.out.is_some(),
             Name::Status => self.status.is_some(),
@@ -102,7 +96,7 @@ impl Common {
             }
         };
         if given {
-            return self.bad(sys, program, b": this is given twice: `", word);
+            return self.bad(sys, b": this is given twice: `", word);
         }
         Common {
             wants: Some(name),
@@ -116,28 +110,21 @@ impl Common {
     }
 
     // Such a word, at the place `at`.
-    pub fn with_word(self, sys: &mut System, program: &[u8], at: usize, word: &[u8]) -> Common {
+    pub fn with_word(self, sys: &mut System, at: usize, word: &[u8]) -> Common {
         if let Some(wanted) = self.wants {
-            return self.with_file(sys, program, wanted, at, word);
+            return self.with_file(sys, wanted, at, word);
         }
         match name_of(word) {
-            Some(name) => self.with_name(sys, program, name, word),
+            Some(name) => self.with_name(sys, name, word),
             None => self,
         }
     }
 
     // Whether nothing is missing behind the last word; `lacks` says that a word of the program's own is.
-    pub fn complete(
-        self,
-        sys: &mut System,
-        lacks: bool,
-        program: &[u8],
-        what: &[u8],
-        example: &[u8],
-    ) -> Common {
+    pub fn complete(self, sys: &mut System, lacks: bool, what: &[u8], example: &[u8]) -> Common {
         let short = lacks || self.out.is_none();
         if self.good && ((short && !self.help) || self.wants.is_some()) {
-            return self.bad(sys, program, what, example);
+            return self.bad(sys, what, example);
         }
         self
     }

@@ -1,11 +1,12 @@
 // The listing on standard output, the records in their file, and what is told of them.
 use log_parts::Walk;
 use printer::{front_of, put_byte, put_bytes, put_decimal};
+use programs::{say, say_count};
 use system::{Fd, System};
 use tally::plus;
 
 // How much was listed: records that are kept and their bytes, stretches that are skipped and theirs. `good` is
-// false once something could not be written.
+// false once something could not be written: a flag and no Err, since what was listed before is told all the same.
 #[derive(Clone, Copy)]
 pub struct Listed {
     pub records: u64,
@@ -15,10 +16,6 @@ pub struct Listed {
     pub good: bool,
 }
 
-pub fn say(sys: &mut System, text: &[u8]) {
-    sys.write_all(system::ERROR, text);
-}
-
 // Why something could not be written, and so nothing more is.
 fn failed(sys: &mut System, l: Listed, what: &[u8]) -> Listed {
     sys.fail(what);
@@ -26,9 +23,7 @@ fn failed(sys: &mut System, l: Listed, what: &[u8]) -> Listed {
         sys,
         b"salvage: broken off: the file of --out may have a record more, or a part of one\n",
     );
-    let mut m = l;
-    m.good = false;
-    m
+    Listed { good: false, ..l }
 }
 
 // The line of a stretch, by one write; whether it was written.
@@ -52,10 +47,11 @@ pub fn list_skipped(sys: &mut System, l: Listed, w: Walk) -> Listed {
     if !write_line(sys, b"skipped ", w.from, n) {
         return failed(sys, l, b"salvage: writing the listing to standard output");
     }
-    let mut m = l;
-    m.stretches = plus(l.stretches, 1);
-    m.skipped = plus(l.skipped, n);
-    m
+    Listed {
+        stretches: plus(l.stretches, 1),
+        skipped: plus(l.skipped, n),
+        ..l
+    }
 }
 
 // The record that stands at the walk's place: written to its file, and then listed.
@@ -67,10 +63,11 @@ fn keep_record(sys: &mut System, l: Listed, w: Walk, fd: Fd, record: &[u8]) -> L
     if !write_line(sys, b"kept ", w.place, n) {
         return failed(sys, l, b"salvage: writing the listing to standard output");
     }
-    let mut m = l;
-    m.records = plus(l.records, 1);
-    m.kept = plus(l.kept, n);
-    m
+    Listed {
+        records: plus(l.records, 1),
+        kept: plus(l.kept, n),
+        ..l
+    }
 }
 
 // What is skipped in front of a record, and the record.
@@ -80,16 +77,6 @@ pub fn keep(sys: &mut System, l: Listed, w: Walk, fd: Fd, record: &[u8]) -> List
         return keep_record(sys, before, w, fd, record);
     }
     before
-}
-
-// A number, with its noun for one and for any other number.
-pub fn say_count(sys: &mut System, n: u64, one: &[u8], many: &[u8]) {
-    sys.print_decimal(system::ERROR, n);
-    if n == 1 {
-        say(sys, one);
-    } else {
-        say(sys, many);
-    }
 }
 
 // What was kept and skipped, at the end.

@@ -4,7 +4,6 @@
 
 mod files;
 mod listing;
-mod progress;
 mod run;
 mod words;
 

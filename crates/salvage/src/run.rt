@@ -4,13 +4,14 @@ ghost use Rattle.log_salvage.specs.Salvage.{stretch_at};
 ghost use Rattle.log_parts.specs.Turn.{Inside, Follows, Turned};
 
 use crate::files::Files;
-use crate::listing::{Listed, keep, list_skipped, say, say_count, tell_end};
-use crate::progress::{Clock, clock_now, ticked};
+use crate::listing::{Listed, keep, list_skipped, tell_end};
 use log_parts::{Part, Walk, after, more, passed};
 use log_salvage::{Stretch, next_stretch};
+use programs::{Clock, say, say_count};
 use system::{Fd, System};
 use tally::plus;
 
+// `going` is false behind the log's end: a flag and no None, since `turn` promises where the walk is there too.
 #[derive(Clone, Copy)]
 pub struct Run {
     pub walk: Walk,
@@ -38,7 +39,7 @@ fn first_run(sys: &mut System) -> Run
             skipped: 0,
             good: true,
         },
-        clock: clock_now(sys),
+        clock: Clock::now(sys),
         going: true,
     }
 }
@@ -57,6 +58,17 @@ fn tell_read(sys: &mut System, p: Part, w: Walk) {
     }
 }
 
+// Says how far the walk is, of a log of that size, where that is due.
+fn with_tick(sys: &mut System, before: Clock, l: Listed, w: Walk, size: u64) -> Clock {
+    let mut clock = before;
+    if clock.is_due(sys) {
+        say(sys, b"salvage: ");
+        say_count(sys, l.records, b" record kept, ", b" records kept, ");
+        programs::say_walked(sys, w.place, size);
+    }
+    clock
+}
+
 // The log goes on: more of it is read. Only this crate calls this function.
 fn read_on(sys: &mut System, r: Run, f: Files, buf: &mut [u8]) -> Run
     requires { Inside r.part buf.old × (r.part.end - r.part.at < 71) × (71 ≤ length buf.old) }
@@ -65,10 +77,9 @@ fn read_on(sys: &mut System, r: Run, f: Files, buf: &mut [u8]) -> Run
 {
     let walk = r.walk;
     let listed = r.listed;
-    let clock = r.clock;
     let part = more(sys, r.part, f.input, buf);
     tell_read(sys, part, walk);
-    let clock = ticked(sys, clock, walk.place, f.size, listed.records);
+    let clock = with_tick(sys, r.clock, listed, walk, f.size);
     Run {
         walk,
         part,
@@ -132,15 +143,16 @@ fn is_going(r: Run) -> bool {
     r.going & l.good
 }
 
-// Nothing says that the log ends, so the turns are counted down from a number that no log uses up.
+// Nothing says that the log ends, so there are as many turns as no log uses up.
 fn turns(sys: &mut System, first: Run, f: Files, buf: &mut [u8]) -> Run
     requires { Inside first.part buf.old × (71 ≤ length buf.old) }
 {
     let mut r = first;
-    let mut left = u64::MAX;
-    while left > 0 && is_going(r) {
+    for _ in 0..u64::MAX {
+        if !is_going(r) {
+            break;
+        }
         r = turn(sys, r, f, buf);
-        left -= 1;
     }
     r
 }

@@ -9,15 +9,12 @@ pub struct Words {
     pub common: Common,
 }
 
-fn with_common(w: Words, common: Common) -> Words {
-    let mut s = w;
-    s.common = common;
-    s
-}
-
 // Says what is wrong with a word.
 fn bad(sys: &mut System, w: Words, what: &[u8], word: &[u8]) -> Words {
-    with_common(w, w.common.bad(sys, b"salvage", what, word))
+    Words {
+        common: w.common.bad(sys, what, word),
+        ..w
+    }
 }
 
 // The log's name, at the place `at`.
@@ -25,59 +22,50 @@ fn with_log(sys: &mut System, w: Words, at: usize, word: &[u8]) -> Words {
     if w.file.is_some() {
         return bad(sys, w, b": one word too many: `", word);
     }
-    if programs::is_file(word) | check::same(word, b"-") {
-        let mut s = w;
-        s.file = Some(at);
-        return s;
+    if !programs::is_input(word) {
+        return bad(
+            sys,
+            w,
+            b": wanted is a file's name of up to 4096 bytes (./-x for -x; - is standard input), --out, --status or --help, and not `",
+            word,
+        );
     }
-    bad(
-        sys,
-        w,
-        b": wanted is a file's name of up to 4096 bytes (./-x for -x; - is standard input), --out, --status or --help, and not `",
-        word,
-    )
-}
-
-fn with_word(sys: &mut System, w: Words, at: usize, word: &[u8]) -> Words {
-    let common = w.common;
-    if common.takes(word) {
-        return with_common(w, common.with_word(sys, b"salvage", at, word));
+    Words {
+        file: Some(at),
+        ..w
     }
-    with_log(sys, w, at, word)
 }
 
-// A word of more than 4,096 bytes is read as an empty one, which is bad wherever it stands.
-fn with_next(sys: &mut System, w: Words, at: usize) -> Words {
-    let common = w.common;
-    if !common.good {
-        return w;
+impl programs::Words for Words {
+    fn common(self) -> Common {
+        self.common
     }
-    let mut word = io::buffer();
-    let n = sys.arg(at, &mut word).unwrap_or(0);
-    with_word(sys, w, at, &word[..n])
+
+    fn with_word(self, sys: &mut System, at: usize, word: &[u8]) -> Words {
+        if !self.common.takes(word) {
+            return with_log(sys, self, at, word);
+        }
+        Words {
+            common: self.common.with_word(sys, at, word),
+            ..self
+        }
+    }
 }
 
-// Whether nothing is missing behind the last word.
-fn complete(sys: &mut System, w: Words) -> Words {
-    let common = w.common;
-    let whole = common.complete(
-        sys,
-        w.file.is_none(),
-        b"salvage",
-        b": a word is missing (--help says more); wanted are FILE --out FILE, as in `",
-        b"pass.log --out good.log",
-    );
-    with_common(w, whole)
-}
-
-// All the words. What is wrong with them is told.
+// All the words. What is wrong with them, or missing behind the last, is told.
 pub fn read_words(sys: &mut System) -> Words {
-    let mut w = Words {
+    let none = Words {
         file: None,
-        common: Common::default(),
+        common: Common::new(b"salvage"),
     };
-    for at in 1..sys.arg_count() {
-        w = with_next(sys, w, at);
+    let w = programs::read_words(sys, none);
+    Words {
+        common: w.common.complete(
+            sys,
+            w.file.is_none(),
+            b": a word is missing (--help says more); wanted are FILE --out FILE, as in `",
+            b"pass.log --out good.log",
+        ),
+        ..w
     }
-    complete(sys, w)
 }

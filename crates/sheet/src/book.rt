@@ -1,10 +1,11 @@
 // What goes with the walk over a log: the page, the picture's points, the clock, and what was seen of the log.
 use crate::files::Log;
 use crate::page::{Page, with_told};
-use crate::progress::{Clock, ticked};
+use crate::told::say_word;
 use drift_picture::Chart;
 use log_parts::Walk;
 use log_records::{Record, read_record};
+use programs::{Clock, say_count};
 use sheets::take_record;
 use system::System;
 use tally::plus;
@@ -37,26 +38,29 @@ fn counted(s: Seen, w: Walk) -> Seen {
     if w.from >= w.place {
         return s;
     }
-    let mut t = s;
-    t.stretches = plus(s.stretches, 1);
-    t.skipped = plus(s.skipped, w.place - w.from);
-    t
+    Seen {
+        stretches: plus(s.stretches, 1),
+        skipped: plus(s.skipped, w.place - w.from),
+        ..s
+    }
 }
 
 pub fn with_skipped(b: Book, w: Walk) -> Book {
-    let seen = counted(b.seen, w);
-    let mut c = b;
-    c.seen = seen;
-    c
+    Book {
+        seen: counted(b.seen, w),
+        ..b
+    }
 }
 
 // Says how far the log is, where that is due.
 pub fn with_tick(sys: &mut System, b: Book, log: Log, w: Walk) -> Book {
-    let seen = b.seen;
-    let clock = ticked(sys, b.clock, log, w.place, seen.records);
-    let mut c = b;
-    c.clock = clock;
-    c
+    let mut clock = b.clock;
+    if clock.is_due(sys) {
+        say_word(sys, b"sheet: ", log.word, b": ");
+        say_count(sys, b.seen.records, b" record, ", b" records, ");
+        programs::say_walked(sys, w.place, log.size);
+    }
+    Book { clock, ..b }
 }
 
 // What a record of that kind and payload does to the sheet, told where there is something to tell.

@@ -2,13 +2,13 @@
 use crate::book::{Book, Seen, nothing_seen};
 use crate::files::{Log, close_log, open_log};
 use crate::page::{Page, new_page, not_whole, turned_over, with_told};
-use crate::progress::clock_now;
 use crate::rows::write_total;
 use crate::run::{Run, first_run, turns};
-use crate::say::{say, say_count, say_word};
+use crate::told::say_word;
 use crate::words::{Words, is_log};
 use drift_picture::Chart;
 use log_parts::Part;
+use programs::{Clock, say, say_count};
 use sheets::end_log;
 use system::System;
 
@@ -139,7 +139,7 @@ pub fn read_logs(sys: &mut System, w: Words, chart: &mut Option<Chart>) -> Book 
     let mut buf = io::large_buffer();
     let first = Book {
         page: new_page(),
-        clock: clock_now(sys),
+        clock: Clock::now(sys),
         seen: nothing_seen(),
     };
     let b = all_logs(sys, w, first, &mut buf, chart);

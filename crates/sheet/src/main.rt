@@ -7,10 +7,9 @@ mod files;
 mod logs;
 mod page;
 mod picture;
-mod progress;
 mod rows;
 mod run;
-mod say;
+mod told;
 mod words;
 
 use drift_picture::Chart;

@@ -1,6 +1,6 @@
 // The picture's file.
 use crate::files::open_out;
-use crate::say::say_word;
+use crate::told::say_word;
 use bounded::Text;
 use drift_picture::{Chart, put_picture};
 use sheets::Total;

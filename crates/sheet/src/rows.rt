@@ -28,9 +28,8 @@ fn put_name(out: &mut [u8], name: &[u8]) -> usize {
 
 // The word at the place `word`.
 fn put_word(sys: &mut System, out: &mut [u8], word: usize) -> usize {
-    let mut name = io::buffer();
-    let n = sys.arg(word, &mut name).unwrap_or(0);
-    put_name(out, &name[..n])
+    let name = programs::word_at(sys, word);
+    put_name(out, name.as_bytes())
 }
 
 fn put_count(out: &mut [u8], at: usize, what: &[u8], n: u64) -> usize {

@@ -5,13 +5,15 @@ ghost use Rattle.log_parts.specs.Turn.{Inside, Follows, Turned};
 
 use crate::book::{Book, with_record, with_skipped, with_tick};
 use crate::files::Log;
-use crate::say::{say_count, say_word};
+use crate::told::say_word;
 use drift_picture::Chart;
 use log_parts::{Part, Walk, after, more, passed};
 use log_salvage::{Stretch, next_stretch};
+use programs::say_count;
 use system::System;
 use tally::plus;
 
+// `going` is false behind the log's end: a flag and no None, since `turn` promises where the walk is there too.
 #[derive(Clone, Copy)]
 pub struct Run {
     pub walk: Walk,
@@ -121,7 +123,7 @@ fn is_going(r: Run) -> bool {
     r.going & page.good & page.reads
 }
 
-// Nothing says that the log ends, so the turns are counted down from a number that no log uses up.
+// Nothing says that the log ends, so there are as many turns as no log uses up.
 pub fn turns(
     sys: &mut System,
     first: Run,
@@ -132,10 +134,11 @@ pub fn turns(
     requires { Inside first.part buf.old × (71 ≤ length buf.old) }
 {
     let mut r = first;
-    let mut left = u64::MAX;
-    while left > 0 && is_going(r) {
+    for _ in 0..u64::MAX {
+        if !is_going(r) {
+            break;
+        }
         r = turn(sys, r, log, buf, chart);
-        left -= 1;
     }
     r
 }

@@ -13,20 +13,17 @@ pub struct Words {
     pub common: Common,
 }
 
-fn with_common(w: Words, common: Common) -> Words {
-    let mut s = w;
-    s.common = common;
-    s
-}
-
 // Says what is wrong with a word.
 fn bad(sys: &mut System, w: Words, what: &[u8], word: &[u8]) -> Words {
-    with_common(w, w.common.bad(sys, b"sheet", what, word))
+    Words {
+        common: w.common.bad(sys, what, word),
+        ..w
+    }
 }
 
 // A log's name.
 fn with_log(sys: &mut System, w: Words, word: &[u8]) -> Words {
-    let input = check::same(word, b"-");
+    let input = word == b"-".as_slice();
     if input & w.input {
         return bad(
             sys,
@@ -35,7 +32,7 @@ fn with_log(sys: &mut System, w: Words, word: &[u8]) -> Words {
             word,
         );
     }
-    if !(programs::is_file(word) | input) {
+    if !programs::is_input(word) {
         return bad(
             sys,
             w,
@@ -43,10 +40,11 @@ fn with_log(sys: &mut System, w: Words, word: &[u8]) -> Words {
             word,
         );
     }
-    let mut s = w;
-    s.logs = std::num::wrapping_add_usize(w.logs, 1);
-    s.input = input | w.input;
-    s
+    Words {
+        logs: w.logs.wrapping_add(1),
+        input: input | w.input,
+        ..w
+    }
 }
 
 // The picture's name, at the place `at`.
@@ -59,47 +57,45 @@ fn with_picture(sys: &mut System, w: Words, at: usize, word: &[u8]) -> Words {
             word,
         );
     }
-    let mut s = w;
-    s.picture = Some(at);
-    s.wants = false;
-    s
+    Words {
+        picture: Some(at),
+        wants: false,
+        ..w
+    }
 }
 
 fn with_name(sys: &mut System, w: Words, word: &[u8]) -> Words {
     if w.picture.is_some() {
         return bad(sys, w, b": this is given twice: `", word);
     }
-    let mut s = w;
-    s.wants = true;
-    s
+    Words { wants: true, ..w }
 }
 
-fn with_word(sys: &mut System, w: Words, at: usize, word: &[u8]) -> Words {
-    let common = w.common;
-    if w.wants {
-        return with_picture(sys, w, at, word);
+impl programs::Words for Words {
+    fn common(self) -> Common {
+        self.common
     }
-    if common.wants.is_some() {
-        return with_common(w, common.with_word(sys, b"sheet", at, word));
-    }
-    if check::same(word, b"--picture") {
-        return with_name(sys, w, word);
-    }
-    if common.takes(word) & !check::same(word, b"--out") {
-        return with_common(w, common.with_word(sys, b"sheet", at, word));
-    }
-    with_log(sys, w, word)
-}
 
-// A word of more than 4,096 bytes is read as an empty one, which is bad wherever it stands.
-fn with_next(sys: &mut System, w: Words, at: usize) -> Words {
-    let common = w.common;
-    if !common.good {
-        return w;
+    fn with_word(self, sys: &mut System, at: usize, word: &[u8]) -> Words {
+        let common = self.common;
+        if self.wants {
+            return with_picture(sys, self, at, word);
+        }
+        if common.wants.is_none() {
+            match word {
+                b"--picture" => return with_name(sys, self, word),
+                b"--out" => return with_log(sys, self, word),
+                _ => {}
+            }
+        }
+        if !common.takes(word) {
+            return with_log(sys, self, word);
+        }
+        Words {
+            common: common.with_word(sys, at, word),
+            ..self
+        }
     }
-    let mut word = io::buffer();
-    let n = sys.arg(at, &mut word).unwrap_or(0);
-    with_word(sys, w, at, &word[..n])
 }
 
 // Whether nothing is missing behind the last word.
@@ -120,23 +116,20 @@ fn complete(sys: &mut System, w: Words) -> Words {
 // Whether the word at the place `at` names a log, of words that are good.
 pub fn is_log(sys: &mut System, w: Words, at: usize) -> bool {
     let common = w.common;
-    let mut word = io::buffer();
-    let n = sys.arg(at, &mut word).unwrap_or(0);
-    let names = programs::is_file(&word[..n]) | check::same(&word[..n], b"-");
+    let word = programs::word_at(sys, at);
+    let names = programs::is_input(word.as_bytes());
     names & (Some(at) != w.picture) & (Some(at) != common.status)
 }
 
 // All the words. What is wrong with them is told.
 pub fn read_words(sys: &mut System) -> Words {
-    let mut w = Words {
+    let none = Words {
         logs: 0,
         input: false,
         picture: None,
         wants: false,
-        common: Common::default(),
+        common: Common::new(b"sheet"),
     };
-    for at in 1..sys.arg_count() {
-        w = with_next(sys, w, at);
-    }
+    let w = programs::read_words(sys, none);
     complete(sys, w)
 }

@@ -11,7 +11,7 @@ use windows::WindowFunction;
 
 // Why something could not be written; the answer is that it was not.
 fn failed(sys: &mut System, what: &[u8], name: &[u8]) -> bool {
-    sys.write_all(system::ERROR, what);
+    programs::say(sys, what);
     sys.fail(name);
     false
 }
@@ -71,17 +71,19 @@ pub fn keep(sys: &mut System, w: Words, table: &[f64]) -> bool
     let Some(out) = w.common.out else {
         return false;
     };
-    let mut word = io::buffer();
-    let n = sys.arg(out, &mut word).unwrap_or(0);
-    let file = file_facts::facts_at(sys, &word[..n]);
-    if file_facts::same_file(file, file_facts::facts_of(sys, system::OUTPUT)) {
-        sys.write_all(
-            system::ERROR,
-            b"table: --out names standard output, where the table's line goes: nothing was written\n",
-        );
+    let word = programs::word_at(sys, out);
+    let name = word.as_bytes();
+    let file = file_facts::facts_at(sys, name);
+    let same = file_facts::same_file(file, file_facts::facts_of(sys, system::OUTPUT));
+    if programs::is_told(
+        sys,
+        same,
+        b"table: --out names ",
+        b"standard output, where the table's line goes",
+    ) {
         return false;
     }
-    if !write_file(sys, &word[..n], table) {
+    if !write_file(sys, name, table) {
         return false;
     }
     if !write_line(sys, w, table) {
@@ -91,18 +93,18 @@ pub fn keep(sys: &mut System, w: Words, table: &[f64]) -> bool
     true
 }
 
-// Writes the status and a line feed into the file that --status names, if one is common. A file that holds
+// Writes the status and a line feed into the file that --status names, if one is named. A file that holds
 // more than a status is left as it is: it may be the table.
 pub fn write_status(sys: &mut System, w: Words, status: u64) {
     let Some(status_at) = w.common.status else {
         return;
     };
-    let mut word = io::buffer();
-    let n = sys.arg(status_at, &mut word).unwrap_or(0);
-    let file = file_facts::facts_at(sys, &word[..n]);
+    let word = programs::word_at(sys, status_at);
+    let name = word.as_bytes();
+    let file = file_facts::facts_at(sys, name);
     if file.map_or(0, |facts| facts.size) > 2 {
         return;
     }
-    let fd = sys.open_overwrite(&word[..n]);
+    let fd = sys.open_overwrite(name);
     programs::put_status(sys, fd.ok(), status);
 }

@@ -15,13 +15,12 @@ pub struct Words {
     pub common: Common,
 }
 
-fn with_common(w: Words, common: Common) -> Words {
-    Words { common, ..w }
-}
-
 // Says what is wrong with a word.
 fn bad(sys: &mut System, w: Words, what: &[u8], word: &[u8]) -> Words {
-    with_common(w, w.common.bad(sys, b"table", what, word))
+    Words {
+        common: w.common.bad(sys, what, word),
+        ..w
+    }
 }
 
 fn with_count(sys: &mut System, w: Words, word: &[u8]) -> Words {
@@ -79,55 +78,45 @@ fn with_window(sys: &mut System, w: Words, word: &[u8]) -> Words {
     }
 }
 
-fn with_word(sys: &mut System, w: Words, at: usize, word: &[u8]) -> Words {
-    let common = w.common;
-    if common.takes(word) {
-        return with_common(w, common.with_word(sys, b"table", at, word));
+impl programs::Words for Words {
+    fn common(self) -> Common {
+        self.common
     }
-    match w.plain {
-        0 | 1 => with_count(sys, w, word),
-        2 => with_cutoff(sys, w, word),
-        3 => with_window(sys, w, word),
-        _ => bad(sys, w, b": one word too many: `", word),
+
+    fn with_word(self, sys: &mut System, at: usize, word: &[u8]) -> Words {
+        if self.common.takes(word) {
+            return Words {
+                common: self.common.with_word(sys, at, word),
+                ..self
+            };
+        }
+        match self.plain {
+            0 | 1 => with_count(sys, self, word),
+            2 => with_cutoff(sys, self, word),
+            3 => with_window(sys, self, word),
+            _ => bad(sys, self, b": one word too many: `", word),
+        }
     }
 }
 
-// A word of more than 4,096 bytes is read as an empty one, which is bad wherever it stands.
-fn with_next(sys: &mut System, w: Words, at: usize) -> Words {
-    let common = w.common;
-    if !common.good {
-        return w;
-    }
-    let mut word = io::buffer();
-    let n = sys.arg(at, &mut word).unwrap_or(0);
-    with_word(sys, w, at, &word[..n])
-}
-
-// Whether nothing is missing behind the last word.
-fn complete(sys: &mut System, w: Words) -> Words {
-    let common = w.common;
-    let whole = common.complete(
-        sys,
-        w.plain < 4,
-        b"table",
-        b": a word is missing (--help says more); wanted are POINTS FACTOR CUTOFF WINDOW --out FILE, as in `",
-        b"64 16 0.9 bh2 --out t.f64",
-    );
-    with_common(w, whole)
-}
-
-// All the words. What is wrong with them is told.
+// All the words. What is wrong with them, or missing behind the last, is told.
 pub fn read_words(sys: &mut System) -> Words {
-    let mut w = Words {
+    let none = Words {
         plain: 0,
         points: 0,
         factor: 0,
         cutoff: 0.0,
         window: WindowFunction::Hann,
-        common: Common::default(),
+        common: Common::new(b"table"),
     };
-    for at in 1..sys.arg_count() {
-        w = with_next(sys, w, at);
+    let w = programs::read_words(sys, none);
+    Words {
+        common: w.common.complete(
+            sys,
+            w.plain < 4,
+            b": a word is missing (--help says more); wanted are POINTS FACTOR CUTOFF WINDOW --out FILE, as in `",
+            b"64 16 0.9 bh2 --out t.f64",
+        ),
+        ..w
     }
-    complete(sys, w)
 }
