@@ -8,7 +8,7 @@ mod reading;
 pub use reading::{is_kind, length_at, read_record, total_of};
 
 // What the reader answers of a record: its kind, where its payload begins and how long it is, and the place
-// behind the record.
+// behind the record. The kind stays a number: refusal 11 and `take_record` of sheets speak of any (document 02).
 #[derive(Clone, Copy)]
 pub struct Record {
     pub kind: u8,

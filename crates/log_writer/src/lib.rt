@@ -67,7 +67,7 @@ fn write(kind: u64, payload: &[u8], out: &mut [u8]) -> usize
 
 // Puts a record of that kind and payload at the front of `out`, and answers how many bytes it has. Takes the
 // kinds 1 to 4 (refusal 11), up to 64 bytes of payload (21) and an `out` that holds the record (22); a
-// refusal leaves `out` as it is.
+// refusal leaves `out` as it is. The kind stays a number, since refusal 11 is for every other one (document 02).
 pub fn put_record(kind: u64, payload: &[u8], out: &mut [u8]) -> Result<usize, Refused>
     ensures answer { said_put result ≡ put_said kind payload.now (length out.old) }
     ensures area { out.new ≡ put_area kind payload.now out.old }
