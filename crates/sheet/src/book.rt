@@ -73,21 +73,19 @@ fn with_call(
     payload: &[u8],
     chart: &mut Option<Chart>,
 ) -> Book {
-    let before = b.page;
-    let turn = take_record(before.sheet, kind, payload);
+    let turn = take_record(b.page.sheet, kind, payload);
     let sheet = turn.sheet;
-    let told = turn.told;
-    let mut page = with_told(sys, before, log, told, w.place, false);
-    page.sheet = sheet;
-    page.reads = turn.reads;
-    let mut c = b;
-    c.page = page;
+    let page = Page {
+        sheet,
+        reads: turn.reads,
+        ..with_told(sys, b.page, log, turn.told, w.place, false)
+    };
     if turn.reads & (kind == 3) {
         if let Some(drawn) = chart {
             drawn.add_block(sheet);
         }
     }
-    c
+    Book { page, ..b }
 }
 
 // The record that stands in these bytes, by its kind and payload.
@@ -119,12 +117,14 @@ pub fn with_record(
     bytes: &[u8],
     chart: &mut Option<Chart>,
 ) -> Book {
-    let mut seen = counted(b.seen, w);
-    seen.records = plus(seen.records, 1);
-    let mut c = b;
-    c.seen = seen;
+    let before = counted(b.seen, w);
+    let seen = Seen {
+        records: plus(before.records, 1),
+        ..before
+    };
+    let counted = Book { seen, ..b };
     match read_record(bytes, 0) {
-        Some(record) => with_payload(sys, c, log, w, record, bytes, chart),
-        None => c,
+        Some(record) => with_payload(sys, counted, log, w, record, bytes, chart),
+        None => counted,
     }
 }

@@ -40,14 +40,11 @@ fn tell_none(sys: &mut System, log: Log, p: Page) {
 // The end of a log: its line, where one is open, is told.
 fn with_end(sys: &mut System, p: Page, log: Log, part: Part, place: u64) -> Page {
     let turn = end_log(p.sheet);
-    let sheet = turn.sheet;
-    let told = turn.told;
-    let mut q = p;
-    if p.good {
-        q = with_told(sys, p, log, told, place, part.failed);
+    let told = if p.good { turn.told } else { None };
+    Page {
+        sheet: turn.sheet,
+        ..with_told(sys, p, log, told, place, part.failed)
     }
-    q.sheet = sheet;
-    q
 }
 
 // What is told of a log behind its last record.
@@ -59,13 +56,11 @@ fn with_log_end(sys: &mut System, r: Run, log: Log) -> Book {
     let page = with_end(sys, book.page, log, part, walk.place);
     tell_skipped(sys, log, seen);
     tell_none(sys, log, page);
-    let mut b = book;
-    if part.failed | (seen.stretches > 0) {
-        b.page = not_whole(page);
-        return b;
+    let missing = part.failed | (seen.stretches > 0);
+    Book {
+        page: if missing { not_whole(page) } else { page },
+        ..book
     }
-    b.page = page;
-    b
 }
 
 // One log. One that cannot be opened is left out.
@@ -76,15 +71,18 @@ fn with_log(
     buf: &mut [u8; 65536],
     chart: &mut Option<Chart>,
 ) -> Book {
-    let page = b.page;
-    let mut c = b;
     let Some(log) = open_log(sys, word) else {
-        c.page = not_whole(page);
-        return c;
+        return Book {
+            page: not_whole(b.page),
+            ..b
+        };
     };
-    c.page = turned_over(page);
-    c.seen = nothing_seen();
-    let r = turns(sys, first_run(c), log, buf, chart);
+    let begun = Book {
+        page: turned_over(b.page),
+        seen: nothing_seen(),
+        ..b
+    };
+    let r = turns(sys, first_run(begun), log, buf, chart);
     close_log(sys, log);
     with_log_end(sys, r, log)
 }
@@ -121,17 +119,14 @@ fn all_logs(
 
 // The total behind the last log.
 fn with_total(sys: &mut System, p: Page) -> Page {
-    let sheet = p.sheet;
-    let total = sheet.total;
     if !p.good {
         return p;
     }
-    let mut q = p;
-    q.good = write_total(sys, total, p.whole);
-    if !q.good {
+    let good = write_total(sys, p.sheet.total, p.whole);
+    if !good {
         sys.fail(b"sheet: writing the total to standard output");
     }
-    q
+    Page { good, ..p }
 }
 
 // Reads every log, and prints the sheet.
@@ -143,8 +138,8 @@ pub fn read_logs(sys: &mut System, w: Words, chart: &mut Option<Chart>) -> Book 
         seen: nothing_seen(),
     };
     let b = all_logs(sys, w, first, &mut buf, chart);
-    let page = with_total(sys, b.page);
-    let mut c = b;
-    c.page = page;
-    c
+    Book {
+        page: with_total(sys, b.page),
+        ..b
+    }
 }

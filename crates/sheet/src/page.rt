@@ -7,7 +7,8 @@ use system::System;
 use tally::plus;
 
 // The sheet; how many lines of this log were told, its word alone counting as one; whether this log is read on,
-// every log was read whole, every line is inside, and all was written.
+// every log was read whole, every line is inside, and all was written: flags and no Err, since a picture is drawn
+// all the same.
 #[derive(Clone, Copy)]
 pub struct Page {
     pub sheet: Sheet,
@@ -31,28 +32,20 @@ pub fn new_page() -> Page {
 
 // The page before a log.
 pub fn turned_over(p: Page) -> Page {
-    let mut q = p;
-    q.lines = 0;
-    q.reads = true;
-    q
+    Page {
+        lines: 0,
+        reads: true,
+        ..p
+    }
 }
 
 // Something of a log is missing.
 pub fn not_whole(p: Page) -> Page {
-    let mut q = p;
-    q.whole = false;
-    q
+    Page { whole: false, ..p }
 }
 
 fn is_call(end: End) -> bool {
-    match end {
-        End::Open => true,
-        End::Closed => true,
-        End::Early => false,
-        End::Payload => false,
-        End::Float => false,
-        End::Range => false,
-    }
+    matches!(end, End::Open | End::Closed)
 }
 
 // The page with one line more told, or why that could not be written.
@@ -60,12 +53,13 @@ fn written(sys: &mut System, p: Page, done: bool, inside: bool, call: bool) -> P
     if !done {
         sys.fail(b"sheet: writing the sheet to standard output");
     }
-    let mut q = p;
-    q.lines = plus(p.lines, 1);
-    q.inside = p.inside & inside;
-    q.whole = p.whole & call;
-    q.good = p.good & done;
-    q
+    Page {
+        lines: plus(p.lines, 1),
+        inside: p.inside & inside,
+        whole: p.whole & call,
+        good: p.good & done,
+        ..p
+    }
 }
 
 fn with_row(sys: &mut System, p: Page, log: Log, l: Line, end: End, place: u64, cut: bool) -> Page {
