@@ -5,7 +5,6 @@ use printer::{front_of, put_area, put_bits, put_byte, put_bytes, put_decimal};
 // The first word, at the start of the buffer.
 fn put_head(out: &mut [u8], head: Head) -> usize {
     match head {
-        Head::Over => 0,
         Head::Bad => put_bytes(out, 0, b"bad"),
         Head::Refused => put_bytes(out, 0, b"ref"),
         Head::Ok => put_bytes(out, 0, b"ok"),
@@ -34,8 +33,8 @@ fn put_word(out: &mut [u8], at: usize, word: Word, area: &[f64]) -> usize {
     }
 }
 
-// The whole answer to a line, at the start of the buffer; how many bytes it has, 0 where there is no
-// line. The samples that it shows are the first of `area`.
+// The whole answer to a line, at the start of the buffer; how many bytes it has. The samples that it shows
+// are the first of `area`.
 pub fn put_answer(out: &mut [u8], said: Said, area: &[f64]) -> usize {
     let mut at = put_head(out, said.head);
     for word in said.words.iter().flatten() {

@@ -41,7 +41,8 @@ pub fn begin() -> Served {
     }
 }
 
-// What a command says that takes numbers alone.
+// What a command says that takes numbers alone. Those that put their answers themselves come here too, and what
+// is said of them is not put.
 fn told(command: Command, values: Values) -> Said {
     match command {
         Command::WLin => leaves::weights_lin(values),
@@ -51,7 +52,6 @@ fn told(command: Command, values: Values) -> Said {
         Command::Cutoff => leaves::cutoff(values),
         Command::Cosine => said_of(wave::cosine(float_at(values, 0))),
         Command::Sine => said_of(wave::sine(float_at(values, 0))),
-        Command::Over => said::begun(Head::Over),
         _ => said::begun(Head::Bad),
     }
 }
@@ -122,8 +122,9 @@ fn put(
     }
 }
 
-// Runs a line, and puts its answer. The ends of the logs of a line stand in `input`.
-fn answered(
+// Runs the command of a line, and puts its answer. The ends of the logs of a line stand in `input`.
+fn ran(
+    command: Command,
     line: Line,
     served: Served,
     out: &mut [u8],
@@ -136,7 +137,6 @@ fn answered(
     let before = served.kept;
     let first = served.live;
     let values = line.values;
-    let command = command_in(line);
     let change = run(command, before, values, input, output, work, table);
     let live = noted(first, command, values, before, change, bytes);
     let end = put(
@@ -149,13 +149,38 @@ fn answered(
         change.said,
         output,
     );
-    let kept = change.kept;
-    let input = line.input;
     Served {
-        kept,
+        kept: change.kept,
         live,
-        input,
+        input: line.input,
         end,
+    }
+}
+
+// A line that can't be read runs nothing, and neither does the input's end.
+fn answered(
+    line: Line,
+    served: Served,
+    out: &mut [u8],
+    input: &[f64],
+    output: &mut [f64],
+    work: &mut [f64],
+    table: &mut [f64],
+    bytes: &mut [u8],
+) -> Served {
+    let end = match command_in(line) {
+        Ok(Some(command)) => {
+            return ran(
+                command, line, served, out, input, output, work, table, bytes,
+            );
+        }
+        Ok(None) => 0,
+        Err(_) => put_answer(out, said::begun(Head::Bad), output),
+    };
+    Served {
+        input: line.input,
+        end,
+        ..served
     }
 }
 

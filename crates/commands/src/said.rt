@@ -5,8 +5,6 @@ use error::Refusal;
 // The first word of an answer.
 #[derive(Clone, Copy)]
 pub enum Head {
-    // There is no line any more, and no answer.
-    Over,
     // The line can't be read.
     Bad,
     Refused,

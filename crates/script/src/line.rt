@@ -4,13 +4,13 @@ use crate::values::Values;
 use crate::words::{Command, Takes, begins_sinc, command_of, takes_of, value_of};
 use system::System;
 
-// A line that is being read: its command, how many of the words behind it were read, whether these have the
+// A line that is being read: its command, none where the first word is no command's; how many of the words behind it were read, whether these have the
 // `s` of a sinc, and their numbers, in `count` places, all of them right where `good` is true. `more` says that
 // another word follows, and `over` that the input had no line any more.
 #[derive(Clone, Copy)]
 pub struct Line {
     pub input: Input,
-    pub command: Command,
+    pub command: Option<Command>,
     pub read: usize,
     pub sinc: bool,
     pub count: usize,
@@ -20,9 +20,21 @@ pub struct Line {
     pub over: bool,
 }
 
+// A line that can't be read.
+#[derive(Clone, Copy, PartialEq, Eq, Debug)]
+pub struct Unreadable;
+
+// The words behind the command of a line.
+fn taken(line: Line) -> &'static [Takes] {
+    match line.command {
+        Some(command) => takes_of(command, line.sinc),
+        None => &[],
+    }
+}
+
 // What the next word has to be; nothing where none is taken any more.
 fn next_of(line: Line) -> Option<Takes> {
-    takes_of(line.command, line.sinc).get(line.read).copied()
+    taken(line).get(line.read).copied()
 }
 
 // The line with one word more. An L has the four places that a sinc takes.
@@ -132,15 +144,16 @@ pub fn read_line(
     line
 }
 
-// The command of a line that is right, with each word that it takes and none besides.
-pub fn command_in(line: Line) -> Command {
+// The command of a line that is right, with each word that it takes and none besides; none where there is no
+// line any more.
+pub fn command_in(line: Line) -> Result<Option<Command>, Unreadable> {
     if line.over {
-        return Command::Over;
+        return Ok(None);
     }
-    let takes = takes_of(line.command, line.sinc);
+    let all = line.read == taken(line).len();
     let logs = next_of(line) == Some(Takes::Logs) && line.values[0] > 0;
-    if line.good && (line.read == takes.len() || logs) {
-        return line.command;
+    match line.command {
+        Some(command) if line.good && (all || logs) => Ok(Some(command)),
+        _ => Err(Unreadable),
     }
-    Command::Unknown
 }

@@ -37,10 +37,6 @@ pub enum Command {
     Sheet,
     Line,
     LiveLog,
-    // A line that can't be read.
-    Unknown,
-    // There is no line any more.
-    Over,
 }
 
 // What a word behind a command has to be.
@@ -73,8 +69,8 @@ pub enum Takes {
     Logs,
 }
 
-pub fn command_of(name: &[u8]) -> Command {
-    match name {
+pub fn command_of(name: &[u8]) -> Option<Command> {
+    Some(match name {
         b"new" => Command::New,
         b"newsinc" => Command::NewSinc,
         b"rec" => Command::Rec,
@@ -108,8 +104,8 @@ pub fn command_of(name: &[u8]) -> Command {
         b"sheet" => Command::Sheet,
         b"line" => Command::Line,
         b"livelog" => Command::LiveLog,
-        _ => Command::Unknown,
-    }
+        _ => return None,
+    })
 }
 
 // rec L in|out channels chunk construction-chunk original current target m index fill needed-in needed-out
