@@ -1,7 +1,8 @@
 // The listing on standard output, the records in their file, and what is told of them.
+use bounded::Text;
 use log_parts::Walk;
-use printer::{front_of, put_byte, put_bytes, put_decimal};
 use programs::{say, say_count};
+use std::fmt::Write;
 use system::{Fd, System};
 use tally::plus;
 
@@ -27,15 +28,10 @@ fn failed(sys: &mut System, l: Listed, what: &[u8]) -> Listed {
 }
 
 // The line of a stretch, by one write; whether it was written.
-fn write_line(sys: &mut System, word: &[u8], start: u64, n: u64) -> bool {
-    let mut line = [0u8; 64];
-    let a = put_bytes(&mut line, 0, word);
-    let b = put_decimal(&mut line, a, start);
-    let c = put_byte(&mut line, b, 32);
-    let d = put_decimal(&mut line, c, n);
-    let e = put_byte(&mut line, d, 10);
-    let k = front_of(&line, e);
-    sys.write_all(system::OUTPUT, &line[..k])
+fn write_line(sys: &mut System, word: &str, start: u64, n: u64) -> bool {
+    let mut line = Text::<64>::new();
+    let _ = write!(line, "{word} {start} {n}\n");
+    sys.write_all(system::OUTPUT, line.as_bytes())
 }
 
 // Lists what is skipped in front of the walk's place, if anything is.
@@ -44,7 +40,7 @@ pub fn list_skipped(sys: &mut System, l: Listed, w: Walk) -> Listed {
         return l;
     }
     let n = w.place - w.from;
-    if !write_line(sys, b"skipped ", w.from, n) {
+    if !write_line(sys, "skipped", w.from, n) {
         return failed(sys, l, b"salvage: writing the listing to standard output");
     }
     Listed {
@@ -60,7 +56,7 @@ fn keep_record(sys: &mut System, l: Listed, w: Walk, fd: Fd, record: &[u8]) -> L
         return failed(sys, l, b"salvage: writing the records to the file of --out");
     }
     let n = record.len() as u64;
-    if !write_line(sys, b"kept ", w.place, n) {
+    if !write_line(sys, "kept", w.place, n) {
         return failed(sys, l, b"salvage: writing the listing to standard output");
     }
     Listed {

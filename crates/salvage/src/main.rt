@@ -68,6 +68,7 @@ fn status_of(sys: &mut System, w: Words) -> u64 {
     }
 }
 
+// Each program has such a main: one for all would take three closures, and be no shorter.
 fn main(rt: HostRuntime) {
     let mut system = System::new(rt);
     let sys = &mut system;

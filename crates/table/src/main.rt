@@ -55,6 +55,7 @@ fn status_of(sys: &mut System, w: Words) -> u64 {
     if build::make(sys, w) { 0 } else { 1 }
 }
 
+// Each program has such a main: one for all would take three closures, and be no shorter.
 fn main(rt: HostRuntime) {
     let mut system = System::new(rt);
     let sys = &mut system;
