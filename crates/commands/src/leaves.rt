@@ -1,40 +1,38 @@
 // The small arithmetic: kernels, blends and their weights, grid points, cutoffs.
 use crate::said::{Said, float, joined, ok, refused, said_of, signed, whole};
+use asynchro_fast::PolynomialDegree;
 use error::Refusal;
 use interpolation::Point;
 use printer::front_of;
-use script::values::{Values, count_at, float_at, number_at, window_at};
+use script::values::{Values, count_at, degree_at, float_at, number_at, window_at};
 
-fn kernel_of(l: u64, x: f64, ys: &[f64]) -> Result<f64, Refusal> {
-    match l {
-        1 => asynchro_fast::interp_nearest(x, ys),
-        2 => asynchro_fast::interp_lin(x, ys),
-        4 => asynchro_fast::interp_cubic(x, ys),
-        6 => asynchro_fast::interp_quintic(x, ys),
-        _ => asynchro_fast::interp_septic(x, ys),
+fn kernel_of(degree: PolynomialDegree, x: f64, ys: &[f64]) -> Result<f64, Refusal> {
+    match degree {
+        PolynomialDegree::Nearest => asynchro_fast::interp_nearest(x, ys),
+        PolynomialDegree::Linear => asynchro_fast::interp_lin(x, ys),
+        PolynomialDegree::Cubic => asynchro_fast::interp_cubic(x, ys),
+        PolynomialDegree::Quintic => asynchro_fast::interp_quintic(x, ys),
+        PolynomialDegree::Septic => asynchro_fast::interp_septic(x, ys),
     }
 }
 
 pub fn kernel(values: Values, input: &[f64]) -> Said {
-    let l = number_at(values, 0);
     let x = float_at(values, 1);
     let n = front_of(input, count_at(values, 2));
-    said_of(kernel_of(l, x, &input[..n]))
+    said_of(kernel_of(degree_at(values, 0), x, &input[..n]))
 }
 
-fn blend_of(points: u64, x: f64, ys: &[f64]) -> Result<f64, Refusal> {
-    match points {
-        2 => asynchro_sinc::interp_lin(x, ys),
-        3 => asynchro_sinc::interp_quad(x, ys),
-        _ => asynchro_sinc::interp_cubic(x, ys),
-    }
-}
-
-// The sinc-side blend of so many samples.
-pub fn blend(points: u64, values: Values, input: &[f64]) -> Said {
+// A sinc-side blend of so many samples.
+pub fn blend<F: Fn(f64, &[f64]) -> Result<f64, Refusal>>(
+    by: F,
+    values: Values,
+    input: &[f64],
+) -> Said
+    requires { F.IsAlwaysCallable by }
+{
     let x = float_at(values, 0);
     let n = front_of(input, count_at(values, 1));
-    said_of(blend_of(points, x, &input[..n]))
+    said_of(by(x, &input[..n]))
 }
 
 // The weights of a blend, an area.

@@ -92,9 +92,18 @@ fn run(
         Command::Sincs => tables::sincs(kept, values, output, table),
         Command::SetTable => tables::set_table(kept, values, input, output, table),
         Command::K => left(kept, leaves::kernel(values, input)),
-        Command::SLin => left(kept, leaves::blend(2, values, input)),
-        Command::SQuad => left(kept, leaves::blend(3, values, input)),
-        Command::SCubic => left(kept, leaves::blend(4, values, input)),
+        Command::SLin => left(
+            kept,
+            leaves::blend(asynchro_sinc::interp_lin, values, input),
+        ),
+        Command::SQuad => left(
+            kept,
+            leaves::blend(asynchro_sinc::interp_quad, values, input),
+        ),
+        Command::SCubic => left(
+            kept,
+            leaves::blend(asynchro_sinc::interp_cubic, values, input),
+        ),
         _ => run_record(command, kept, values),
     }
 }
