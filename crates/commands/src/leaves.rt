@@ -35,7 +35,7 @@ pub fn blend<F: Fn(f64, &[f64]) -> Result<f64, Refusal>>(
     said_of(by(x, &input[..n]))
 }
 
-// The weights of a blend, an area.
+// The weights of a blend, an area: a loop over two, three or four of them would be no shorter.
 pub fn weights_lin(values: Values) -> Said {
     let w = asynchro_sinc::interp_lin_weights(float_at(values, 0));
     joined(float(ok(), w[0]), w[1])

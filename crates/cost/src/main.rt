@@ -15,7 +15,8 @@ use state::State;
 use system::{ERROR, OUTPUT, System};
 use table_sum::TableSum;
 
-// The record behind the blocks so far, and whether all were accepted.
+// The record behind the blocks so far, and whether all were accepted: no Result, since a refused block leaves
+// its record and the next one runs.
 #[derive(Clone, Copy)]
 struct Turn {
     state: State,

@@ -3,7 +3,7 @@ use asynchro::Outcome;
 use lines::{End, Line, add_block, start_line};
 use state::State;
 
-// `good` says that no call was refused.
+// `good` says that no call was refused: a pass goes on behind a refused one, so it is no Result.
 #[derive(Clone, Copy)]
 pub struct Account {
     pub state: State,
