@@ -145,21 +145,29 @@ pub fn quarter_wave() -> [u32; 1025]
 }
 
 // The table as it is lent: a caller has it made once, and no other table is one.
-#[derive(Drop)]
-pub struct QuarterWave {
-    entries: [u32; 1025],
-    ghost made: { entries ≡ wave },
+#[derive(Clone, Copy)]
+pub struct QuarterWave<'a> {
+    entries: &'a [u32],
+    ghost made: { entries.now ≡ wave },
 }
 
-impl QuarterWave {
-    pub fn new() -> Self {
-        QuarterWave {
-            entries: quarter_wave(),
-        }
+impl<'a> QuarterWave<'a> {
+    // Only our own crates call this, of what `quarter_wave` has handed out.
+    pub fn of(table: &'a [u32]) -> Self
+        requires { table.now ≡ wave }
+    {
+        QuarterWave { entries: table }
+    }
+
+    // The table, for a function that is lent it by itself.
+    pub fn entries(self) -> &'a [u32]
+        ensures { result.now ≡ wave }
+    {
+        self.entries
     }
 
     // The entry at place k. Only our own crates call this.
-    pub fn entry(&self, k: usize) -> u32
+    pub fn entry(self, k: usize) -> u32
         requires { k ≤ 1024 }
         ensures { result ≡ entry k }
     {

@@ -19,14 +19,14 @@ fn is_tiny(v: f64) -> bool
 }
 
 // sinc(v) = sin(pi*v)/(pi*v), over the quarter wave that is lent.
-fn sinc(wave: &QuarterWave, v: f64) -> f64
+fn sinc(wave: QuarterWave, v: f64) -> f64
     requires { small (steps_of v) ≡ true }
     ensures { result ≡ sinc_of v }
 {
     if is_tiny(v) {
         return 1.0;
     }
-    wave::sine_at(wave, 2048.0 * v) / (v * 3.141592653589793)
+    wave::sine_at(wave.entries(), 2048.0 * v) / (v * 3.141592653589793)
 }
 
 // Where value x of `total` stands in the sinc: at few enough steps of the wave.
@@ -61,17 +61,17 @@ impl Windowed {
     }
 
     // Value x of the windowed sinc.
-    fn value(self, wave: &QuarterWave, x: usize) -> f64
+    fn value(self, wave: QuarterWave, x: usize) -> f64
         requires { x < self.points * self.factor }
         ensures { result ≡ value_at self.points self.factor self.cutoff self.windowfunc x }
     {
         let n = self.total();
         let v = place_of(n, self.factor, self.cutoff, x);
-        window_points::point_at(wave, self.windowfunc, x, n) * sinc(wave, v)
+        window_points::point_at(wave.entries(), self.windowfunc, x, n) * sinc(wave, v)
     }
 
     // The sum of all values, divided by the factor.
-    fn sum(self, wave: &QuarterWave) -> f64
+    fn sum(self, wave: QuarterWave) -> f64
         ensures { result ≡ sum_of self.points self.factor self.cutoff self.windowfunc }
     {
         let mut sum = 0.0;
@@ -90,7 +90,7 @@ impl Windowed {
     }
 
     // Every entry of the table: a value divided by the sum.
-    fn fill(self, wave: &QuarterWave, sincs: &mut [f64])
+    fn fill(self, wave: QuarterWave, sincs: &mut [f64])
         requires { length sincs.old ≡ self.points * self.factor }
         ensures { sincs.new ≡ listed (entry_at self.points self.factor self.cutoff self.windowfunc) (self.points * self.factor) }
     {
@@ -141,6 +141,7 @@ pub fn make_sincs(
         cutoff,
         windowfunc,
     };
-    windowed.fill(&QuarterWave::new(), sincs);
+    let table = quarter::quarter_wave();
+    windowed.fill(QuarterWave::of(&table), sincs);
     Ok(())
 }

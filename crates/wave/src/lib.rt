@@ -2,13 +2,14 @@
 // steps a straight line is taken.
 //
 // `cosine_at` and `sine_at`, which are lent the quarter wave, are for our own crates: who calls them has it
-// made once, by `QuarterWave::new`.
+// made once, by `quarter::quarter_wave`.
 #![tactic(auto)]
 
 ghost use Rattle.std.specs.Prelude.{◌≡◌, ◌<◌, ◌≤◌, true, [], pos, neg_ℤ};
 ghost use Rattle.std.specs.Float.{binary64};
 ghost use Rattle.std.specs.Float.Ieee.{of_int, to_signed};
 ghost use Rattle.error.specs.Refusals.{given, unless, said_answer};
+ghost use Rattle.quarter.specs.Wave.{wave};
 ghost use Rattle.whole.specs.Small.{small};
 ghost use Rattle.wave.specs.Carried.{place_of, in_quarter};
 ghost use Rattle.wave.specs.Cosine.{cosine_at, sine_at, cosine_said, sine_said};
@@ -38,7 +39,7 @@ fn minus(w: u32) -> f64
 }
 
 // The value r steps after the start of a quarter.
-fn in_quarter(wave: &QuarterWave, quarter: usize, r: usize) -> f64
+fn in_quarter(wave: QuarterWave, quarter: usize, r: usize) -> f64
     requires { r < 1024 }
     ensures { result ≡ of_int binary64 (in_quarter quarter r) }
 {
@@ -51,7 +52,7 @@ fn in_quarter(wave: &QuarterWave, quarter: usize, r: usize) -> f64
 }
 
 // The value at a place, which may lie behind the first turn.
-fn step_at(wave: &QuarterWave, place: usize) -> f64
+fn step_at(wave: QuarterWave, place: usize) -> f64
     ensures { result ≡ place_f place }
 {
     let p = place % 4096;
@@ -69,7 +70,7 @@ fn place_of(floor: f64) -> usize
 }
 
 // The part x of the way from a place to the next one.
-fn line_from(wave: &QuarterWave, place: usize, x: f64) -> f64
+fn line_from(wave: QuarterWave, place: usize, x: f64) -> f64
     requires { place ≤ 8192 }
     ensures { result ≡ line_from place x }
 {
@@ -80,7 +81,7 @@ fn line_from(wave: &QuarterWave, place: usize, x: f64) -> f64
 
 // The line so many places ahead of k. That k is small stands here and in the two that are lent the wave,
 // and in no type: who calls them has just divided for k, and would wrap it for this one call.
-fn line_at(wave: &QuarterWave, k: f64, ahead: usize) -> f64
+fn line_at(wave: QuarterWave, k: f64, ahead: usize) -> f64
     requires k_value { small k ≡ true }
     requires ahead_bound { ahead ≤ 4096 }
     ensures { result ≡ line_at ahead k }
@@ -90,20 +91,22 @@ fn line_at(wave: &QuarterWave, k: f64, ahead: usize) -> f64
     line_from(wave, place + ahead, s.frac)
 }
 
-// The cosine of k steps, over the wave that is lent.
-pub fn cosine_at(wave: &QuarterWave, k: f64) -> f64
-    requires { small k ≡ true }
+// The cosine of k steps, over the table that is lent.
+pub fn cosine_at(table: &[u32], k: f64) -> f64
+    requires table_value { table.now ≡ wave }
+    requires k_value { small k ≡ true }
     ensures { result ≡ cosine_at k }
 {
-    line_at(wave, k, COSINE)
+    line_at(QuarterWave::of(table), k, COSINE)
 }
 
 // The sine of k steps, likewise.
-pub fn sine_at(wave: &QuarterWave, k: f64) -> f64
-    requires { small k ≡ true }
+pub fn sine_at(table: &[u32], k: f64) -> f64
+    requires table_value { table.now ≡ wave }
+    requires k_value { small k ≡ true }
     ensures { result ≡ sine_at k }
 {
-    line_at(wave, k, SINE)
+    line_at(QuarterWave::of(table), k, SINE)
 }
 
 // |k| is below 2^52. A NaN is not.
@@ -121,7 +124,8 @@ fn answered(k: f64, ahead: usize) -> Result<f64, Refusal>
     if !is_small(k) {
         return Err(Refusal::Argument);
     }
-    Ok(line_at(&QuarterWave::new(), k, ahead))
+    let table = quarter::quarter_wave();
+    Ok(line_at(QuarterWave::of(&table), k, ahead))
 }
 
 // The cosine of k steps, |k| below 2^52.

@@ -3,6 +3,7 @@
 #![tactic(auto)]
 
 ghost use Rattle.std.specs.Prelude.{◌≡◌, ◌<◌, ◌≤◌, true, ◌&&◌, length, nat_le};
+ghost use Rattle.quarter.specs.Wave.{wave};
 ghost use Rattle.window_points.specs.Points.{cosine_of, hann_at, blackman_at, harris_at, square_of, point_at};
 ghost use Rattle.window_points.specs.Filled.{listed, built_left};
 ghost use Rattle.window_points.specs.Window.{window_of};
@@ -14,7 +15,7 @@ use windows::WindowFunction;
 // The angle of point i of a window of n points, and the wave that its cosines are read from.
 #[derive(Clone, Copy)]
 struct Angle<'a> {
-    wave: &'a QuarterWave,
+    wave: QuarterWave<'a>,
     i: usize,
     n: usize,
     ghost inside: { (i < n) × (n ≤ 65536) },
@@ -28,7 +29,7 @@ impl Angle<'_> {
     {
         let steps = std::num::nearest_u64_to_f64((4096 * h * self.i) as u64);
         let k = steps / std::num::nearest_u64_to_f64(self.n as u64);
-        wave::cosine_at(self.wave, k)
+        wave::cosine_at(self.wave.entries(), k)
     }
 
     fn hann(self) -> f64
@@ -59,13 +60,18 @@ fn squared(y: f64) -> f64
     y * y
 }
 
-// Point i of a window of n points, over the wave that is lent.
+// Point i of a window of n points, over the table that is lent.
 #[tactic(auto, unfolding(crate::specs::Points::point_at))]
-pub fn point_at(wave: &QuarterWave, windowfunc: WindowFunction, i: usize, n: usize) -> f64
+pub fn point_at(table: &[u32], windowfunc: WindowFunction, i: usize, n: usize) -> f64
+    requires table_value { table.now ≡ wave }
     requires i_lt_n { (i < n) × (n ≤ 65536) }
     ensures { result ≡ point_at windowfunc i n }
 {
-    let angle = Angle { wave, i, n };
+    let angle = Angle {
+        wave: QuarterWave::of(table),
+        i,
+        n,
+    };
     match windowfunc {
         WindowFunction::Blackman => angle.blackman(),
         WindowFunction::Blackman2 => squared(angle.blackman()),
@@ -77,13 +83,13 @@ pub fn point_at(wave: &QuarterWave, windowfunc: WindowFunction, i: usize, n: usi
 }
 
 // Every point of the window that is as long as the area.
-fn fill(wave: &QuarterWave, windowfunc: WindowFunction, window: &mut [f64])
+fn fill(wave: QuarterWave, windowfunc: WindowFunction, window: &mut [f64])
     requires { length window.old ≤ 65536 }
     ensures { window.new ≡ listed (λ i. point_at windowfunc i (length window.old)) (length window.old) }
 {
     let n = window.len();
     for i in 0..n {
-        window[i] = point_at(wave, windowfunc, i, n);
+        window[i] = point_at(wave.entries(), windowfunc, i, n);
     }
 }
 
@@ -107,6 +113,7 @@ pub fn make_window(
     if window.len() != npoints {
         return Err(Refusal::BufferShape);
     }
-    fill(&QuarterWave::new(), windowfunc, window);
+    let table = quarter::quarter_wave();
+    fill(QuarterWave::of(&table), windowfunc, window);
     Ok(())
 }

@@ -9,10 +9,10 @@ place_of-v-requires c = let s = c.args.self in
     let t = tests s.points s.factor s.cutoff s.holds in
     record { x_bound = rw c.total-n.ensures (c.requires, t.0.most); factor_bound = (t.0.factor_some, t.0.factor_most); cutoff_value = t.1 }
 
-pub point_at-requires : goal.point_at-requires
-point_at-requires c = let s = c.args.self in
+pub point_at-requires-clause-i_lt_n : goal.point_at-requires-clause-i_lt_n
+point_at-requires-clause-i_lt_n c = let s = c.args.self in
     let t = tests s.points s.factor s.cutoff s.holds in
-    record { i_lt_n = rw c.total-n.ensures (c.requires, t.0.most) }
+    rw c.total-n.ensures (c.requires, t.0.most)
 
 pub returns : goal.returns
 returns c = let s = c.args.self in
