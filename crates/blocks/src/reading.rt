@@ -2,7 +2,7 @@
 ghost use Rattle.std.specs.Prelude.{◌≡◌, ◌*◌, ◌<◌, ◌≤◌, length};
 ghost use Rattle.blocks.specs.Blocks.{PieceRead, PiecesRead};
 
-use samples::{samples_in, spread};
+use samples::{least, samples_in, spread};
 use system::{Fd, System};
 
 // So many bytes have been read, and whether a read failed behind them.
@@ -58,7 +58,7 @@ fn read_piece(
     requires { (0 < channels) × (most ≡ channels * share) × (most ≤ 1048576) × (most ≤ length area.old) × (done ≤ most) }
     ensures { PieceRead (length bytes.old) channels share most done area.old area.new result.samples result.rest result.ended }
 {
-    let want = (bytes.len() / 8).min(most - done);
+    let want = least(bytes.len() / 8, most - done);
     let filled = fill(sys, fd, bytes, 8 * want);
     let count = filled.count;
     let n = count / 8;

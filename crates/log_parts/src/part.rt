@@ -1,7 +1,7 @@
 // The part of the log that stands in the buffer.
 ghost use Rattle.std.specs.Prelude.{◌≡◌, ◌+◌, ◌-◌, ◌<◌, ◌≤◌, length, take, drop};
 
-use system::{Fd, System};
+use system::{Fd, System, brought};
 
 // The bytes up to `end` were read, and those up to `at` are walked. `last` says that the log ends there, since
 // it does or since a read failed, as `failed` says.
@@ -34,7 +34,7 @@ pub fn more(sys: &mut System, p: Part, fd: Fd, buf: &mut [u8]) -> Part
     buf.copy_within(at..end, 0);
     let n = end - at;
     let got = sys.read(fd, &mut buf[n..]);
-    let count = got.unwrap_or(0);
+    let count = brought(got);
     Part {
         at: 0,
         end: n + count,

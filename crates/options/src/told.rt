@@ -21,20 +21,15 @@ fn plain(byte: u8) -> u8 {
     if byte.is_ascii_control() { b'?' } else { byte }
 }
 
-fn write_plain(sys: &mut System, fd: Fd, word: &[u8]) -> bool {
-    let mut line = [0u8; 4096];
-    for (place, byte) in line.iter_mut().zip(word) {
+// The word, with a space before it where one stands there: in one write.
+fn write_spaced(sys: &mut System, fd: Fd, begun: bool, word: &[u8]) -> bool {
+    let mut line = [b' '; 4100];
+    let start = usize::from(begun);
+    for (place, byte) in line[start..].iter_mut().zip(word) {
         *place = plain(*byte);
     }
-    sys.write_all(fd, &line[..word.len().min(4096)])
-}
-
-// The word, with a space before it where one stands there.
-fn write_spaced(sys: &mut System, fd: Fd, begun: bool, word: &[u8]) -> bool {
-    if begun && !sys.write_all(fd, b" ") {
-        return false;
-    }
-    write_plain(sys, fd, word)
+    let end = start.saturating_add(word.len()).min(4100);
+    sys.write_all(fd, &line[..end])
 }
 
 // A word: --status is left out, with its value.
@@ -95,5 +90,5 @@ pub fn write_window(sys: &mut System, fd: Fd, window: WindowFunction) -> bool {
 pub fn write_file_name(sys: &mut System, fd: Fd, place: Place) -> bool {
     let mut word = io::buffer();
     let n = sys.arg(place.at, &mut word).unwrap_or(0);
-    write_plain(sys, fd, &word[place.from.min(n)..n])
+    write_spaced(sys, fd, false, &word[place.from.min(n)..n])
 }

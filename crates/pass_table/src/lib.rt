@@ -4,6 +4,7 @@
 
 use options::{Options, Sinc, say, say_refused, say_start};
 use printer::front_of;
+use samples::least;
 use system::{Fd, System};
 
 // How many entries the table has; a polynomial has none.
@@ -61,7 +62,7 @@ struct Got {
 // Reads on behind the entries that are there, as many as a read takes.
 fn read_part(sys: &mut System, fd: Fd, table: &mut [f64], held: &mut [f64], g: Got) -> Got {
     let at = front_of(table, g.entries as usize);
-    let n = (table.len() - at).min(65536);
+    let n = least(65536, table.len() - at);
     let r = blocks::read_frames(sys, fd, &mut table[at..at + n], held, g.more, 1, n);
     Got {
         entries: tally::plus(at as u64, r.frames as u64),

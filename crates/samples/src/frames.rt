@@ -3,6 +3,7 @@
 ghost use Rattle.std.specs.Prelude.{◌≡◌, ◌+◌, ◌*◌, ◌<◌, ◌≤◌, length};
 ghost use Rattle.samples.specs.Frames.{place_of, spread_to, gathered_to};
 
+use crate::counts::least;
 use crate::little::{put_sample, sample_at};
 
 // The place in an area of the sample that is number k of interleaved frames.
@@ -20,7 +21,7 @@ pub fn spread(bytes: &[u8], n: usize, area: &mut [f64], channels: usize, share: 
     requires share_in_bounds { (channels * share ≤ length area.old) × (8 * n ≤ length bytes.now) }
     ensures { area.new ≡ spread_to channels share first bytes.now area.old n }
 {
-    for i in 0..channels.min(n) {
+    for i in 0..least(channels, n) {
         let mut to = place_of(channels, share, first + i);
         let mut j = i;
         while j < n {
@@ -38,7 +39,7 @@ pub fn gather(area: &[f64], channels: usize, share: usize, first: usize, bytes: 
     requires share_in_bounds { (channels * share ≤ length area.now) × (8 * n ≤ length bytes.old) }
     ensures { bytes.new ≡ gathered_to channels share first area.now bytes.old n }
 {
-    for i in 0..channels.min(n) {
+    for i in 0..least(channels, n) {
         let mut from = place_of(channels, share, first + i);
         let mut j = i;
         while j < n {

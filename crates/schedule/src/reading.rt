@@ -2,7 +2,8 @@
 ghost use Rattle.std.specs.Prelude.{◌+◌, ◌≤◌, length};
 
 use crate::entries::{Entry, entry_of};
-use system::{Fd, System};
+use samples::least;
+use system::{Fd, System, brought};
 
 // Where the reading stands: the bytes at `at` up to `end` of the buffer are not yet used; `line` is the number
 // of the line read last; `ended` says that there is no more to read, `failed` that a read failed.
@@ -44,9 +45,9 @@ pub fn start() -> Cursor {
 fn kept(c: Cursor, size: usize) -> Cursor
     ensures { (result.at ≤ result.end) × (result.end ≤ size) }
 {
-    let end = c.end.min(size);
+    let end = least(c.end, size);
     Cursor {
-        at: c.at.min(end),
+        at: least(c.at, end),
         end,
         line: c.line,
         ended: c.ended,
@@ -85,7 +86,7 @@ fn read_on(sys: &mut System, fd: Fd, bytes: &mut [u8], held: usize, line: u64) -
     requires { held ≤ length bytes.old }
 {
     let got = sys.read(fd, &mut bytes[held..]);
-    let n = got.unwrap_or(0);
+    let n = brought(got);
     Cursor {
         at: 0,
         end: held + n,
@@ -146,8 +147,11 @@ fn turn(sys: &mut System, fd: Fd, bytes: &mut [u8], c: Cursor) -> Step {
 
 // The next change of the plan. Nothing says that a file ends, so the turns are of a number that no run uses up.
 pub fn next_entry(sys: &mut System, fd: Fd, bytes: &mut [u8], c: Cursor) -> Step {
-    let mut s = turn(sys, fd, bytes, c);
-    for _ in 1..u64::MAX {
+    let mut s = Step {
+        next: Ok(Some(Entry::Blank)),
+        cursor: c,
+    };
+    for _ in 0..u64::MAX {
         let Ok(Some(Entry::Blank)) = s.next else {
             return s;
         };

@@ -44,7 +44,7 @@ fn filled(sys: &mut System, buf: &mut [u8], input: Input) -> Input {
     if !input.open {
         return input;
     }
-    let n = sys.read(system::INPUT, buf).unwrap_or(0);
+    let n = system::brought(sys.read(system::INPUT, buf));
     Input {
         at: 0,
         end: n,

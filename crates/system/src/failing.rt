@@ -80,8 +80,10 @@ impl System {
     pub fn fail(&mut self, what: &[u8]) {
         let last = self.last.unwrap_or(NONE);
         let mut text = Text::<128>::new();
-        let _ = write!(text, ": {last}\n");
+        let _ = write!(text, "{last}");
         self.write_all(ERROR, what);
+        self.write_all(ERROR, b": ");
         self.write_all(ERROR, text.as_bytes());
+        self.write_all(ERROR, b"\n");
     }
 }

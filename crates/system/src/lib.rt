@@ -16,6 +16,7 @@ mod writing;
 
 pub use failing::Failed;
 pub use fd::{ERROR, Fd, INPUT, OUTPUT};
+pub use reading::brought;
 pub use record::Record;
 use std::fs::File;
 use std::time::{SystemTime, UNIX_EPOCH};

@@ -1,10 +1,18 @@
 // Reading.
-ghost use Rattle.std.specs.Prelude.{◌≤◌, length};
+ghost use Rattle.std.specs.Prelude.{◌≡◌, ◌≤◌, length, IfOk, IfErr};
 ghost use Rattle.std.specs.Io.{ReadsAtMost};
 
 use crate::failing::{Failed, NOT_OPEN};
 use crate::{Fd, System};
 use std::io::Read;
+
+// How many bytes a read brought: none where it failed.
+pub fn brought(got: Result<usize, Failed>) -> usize
+    ensures all { IfOk got (λ n. result ≡ n) }
+    ensures none { IfErr got (λ e. result ≡ 0) }
+{
+    got.unwrap_or(0)
+}
 
 impl System {
     fn read_some(&mut self, fd: Fd, buf: &mut [u8]) -> Result<usize, Failed>
@@ -32,7 +40,7 @@ impl System {
     {
         let mut done = 0;
         while done < buf.len() {
-            let n = self.read(fd, &mut buf[done..]).unwrap_or(0);
+            let n = brought(self.read(fd, &mut buf[done..]));
             if n == 0 {
                 break;
             }

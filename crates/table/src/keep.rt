@@ -74,13 +74,11 @@ pub fn keep(sys: &mut System, w: Words, table: &[f64]) -> bool
     let word = programs::word_at(sys, out);
     let name = word.as_bytes();
     let file = file_facts::facts_at(sys, name);
-    let same = file_facts::same_file(file, file_facts::facts_of(sys, system::OUTPUT));
-    if programs::is_told(
-        sys,
-        same,
-        b"table: --out names ",
-        b"standard output, where the table's line goes",
-    ) {
+    if file_facts::same_file(file, file_facts::facts_of(sys, system::OUTPUT)) {
+        programs::say(
+            sys,
+            b"table: --out names standard output, where the table's line goes: nothing was written\n",
+        );
         return false;
     }
     if !write_file(sys, name, table) {

@@ -2,6 +2,7 @@
 #![tactic(auto)]
 
 use options::{say, say_number, say_start};
+use samples::least;
 use system::{Fd, System};
 
 // The bytes of a frame.
@@ -52,7 +53,7 @@ fn all_written(sys: &mut System, frames: u64, fd: Fd) -> bool {
     let mut tones = first_tones();
     let mut left = frames;
     while left > 0 {
-        let n = left.min(512) as usize;
+        let n = least(bytes.len() / FRAME, left as usize);
         tones = put_tones(&mut bytes, n, tones);
         if !sys.write_all(fd, &bytes[..FRAME * n]) {
             return false;

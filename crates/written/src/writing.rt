@@ -5,7 +5,7 @@ ghost use Rattle.samples.specs.Counts.{taken, up_to};
 ghost use Rattle.written.specs.Pieces.{Written};
 
 use printer::front_of;
-use samples::{gather, samples_in, takes};
+use samples::{gather, least, samples_in, takes};
 use system::{Fd, System};
 
 // What was written: the samples from number `first` up to `last`, and whether all went well.
@@ -33,7 +33,7 @@ fn write_piece(
     ensures bytes_after { bytes.new ≡ gathered_to channels share w.last output.now bytes.old (result.last - w.last) }
 {
     let done = w.last;
-    let want = (bytes.len() / 8).min(most - done);
+    let want = least(bytes.len() / 8, most - done);
     gather(output, channels, share, done, bytes, want);
     let n = front_of(bytes, 8 * want);
     Writing {
