@@ -35,9 +35,10 @@ fn put_word(out: &mut [u8], at: usize, word: Word, area: &[f64]) -> usize {
 
 // The whole answer to a line, at the start of the buffer; how many bytes it has. The samples that it shows
 // are the first of `area`.
-pub fn put_answer(out: &mut [u8], said: Said, area: &[f64]) -> usize {
+#[inline(always)]
+pub fn put_answer(out: &mut [u8], said: &Said, area: &[f64]) -> usize {
     let mut at = put_head(out, said.head);
-    for word in said.words.iter().flatten() {
+    for word in said.words.iter().take(said.count).flatten() {
         at = put_word(out, at, *word, area);
     }
     at

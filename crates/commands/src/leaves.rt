@@ -1,5 +1,5 @@
 // The small arithmetic: kernels, blends and their weights, grid points, cutoffs.
-use crate::said::{Said, float, joined, ok, refused, said_of, signed, whole};
+use crate::said::{Said, Word, float, joined, ok, refused, said_of, signed};
 use asynchro_fast::PolynomialDegree;
 use error::Refusal;
 use interpolation::Point;
@@ -51,8 +51,9 @@ pub fn weights_cubic(values: Values) -> Said {
     joined(joined(joined(float(ok(), w[0]), w[1]), w[2]), w[3])
 }
 
-fn point(said: Said, p: Point) -> Said {
-    whole(signed(said, p.index), p.subindex)
+fn put_point(said: &mut Said, p: Point) {
+    said.put(signed(p.index));
+    said.put(Word::Whole(p.subindex));
 }
 
 // The points of the grid that lie nearest, as many as were asked for.
@@ -61,7 +62,7 @@ fn points<const N: usize>(answer: Result<[Point; N], Refusal>) -> Said {
         Ok(nearest) => {
             let mut said = ok();
             for p in &nearest {
-                said = point(said, *p);
+                put_point(&mut said, *p);
             }
             said
         }

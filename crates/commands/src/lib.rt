@@ -117,7 +117,7 @@ fn put(
     bytes: &[u8],
     ends: &[f64],
     live: Live,
-    said: Said,
+    said: &Said,
     area: &[f64],
 ) -> usize {
     match command {
@@ -155,7 +155,7 @@ fn ran(
         bytes,
         input,
         live,
-        change.said,
+        &change.said,
         output,
     );
     Served {
@@ -184,7 +184,7 @@ fn answered(
             );
         }
         Ok(None) => 0,
-        Err(_) => put_answer(out, said::begun(Head::Bad), output),
+        Err(_) => put_answer(out, &said::begun(Head::Bad), output),
     };
     Served {
         input: line.input,

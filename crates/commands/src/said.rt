@@ -27,16 +27,19 @@ pub enum Word {
 // A block's answer has the most words.
 const MOST: usize = 18;
 
-// An answer: its first word, and the words behind it, which stand first among their places.
+// An answer: its first word, and the words behind it, `count` of them, which stand first among their places: an
+// answer is made a word at a time, and the next one's place is not looked for.
 #[derive(Clone, Copy)]
 pub struct Said {
     pub head: Head,
+    pub count: usize,
     pub words: [Option<Word>; MOST],
 }
 
 pub fn begun(head: Head) -> Said {
     Said {
         head,
+        count: 0,
         words: [None; MOST],
     }
 }
@@ -45,15 +48,36 @@ pub fn ok() -> Said {
     begun(Head::Ok)
 }
 
-// One word more, where there is a place for it.
-fn and(said: Said, word: Word) -> Said {
-    let mut then = said;
-    for place in then.words.iter_mut() {
-        if place.is_none() {
-            *place = Some(word);
-            break;
+impl Said {
+    // One word more, where there is a place for it.
+    pub fn put(&mut self, word: Word) {
+        let at = self.count;
+        if at < MOST {
+            self.words[at] = Some(word);
+            self.count = at + 1;
         }
     }
+}
+
+// The word of a count.
+pub fn counted(n: usize) -> Word {
+    Word::Whole(n as u64)
+}
+
+// The word of a whole number that may be below 0.
+pub fn signed(z: i64) -> Word {
+    let size = text::size_of(z);
+    if z < 0 {
+        Word::Below(size)
+    } else {
+        Word::Whole(size)
+    }
+}
+
+#[inline(always)]
+fn and(said: Said, word: Word) -> Said {
+    let mut then = said;
+    then.put(word);
     then
 }
 
@@ -70,19 +94,7 @@ pub fn whole(said: Said, n: u64) -> Said {
 }
 
 pub fn count(said: Said, n: usize) -> Said {
-    whole(said, n as u64)
-}
-
-pub fn signed(said: Said, z: i64) -> Said {
-    let size = text::size_of(z);
-    and(
-        said,
-        if z < 0 {
-            Word::Below(size)
-        } else {
-            Word::Whole(size)
-        },
-    )
+    and(said, counted(n))
 }
 
 // So many samples.

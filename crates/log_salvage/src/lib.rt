@@ -31,7 +31,13 @@ fn is_passed(part: &[u8], at: usize, last: bool) -> bool
     requires { at < length part.now }
     ensures { result ≡ not (stops_at last (drop at part.now)) }
 {
-    length_at(part, at).is_none() & (last | (71 <= part.len() - at))
+    if length_at(part, at).is_some() {
+        return false;
+    }
+    if last {
+        return true;
+    }
+    71 <= part.len() - at
 }
 
 // The place of the next record, or of the end. Only this crate calls this function.

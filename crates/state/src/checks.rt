@@ -8,7 +8,9 @@ use crate::State;
 use crate::measured::{Measured, Tested};
 use error::Refusal;
 
-// The first rungs of every call on a record: refusal 11 for its kind, then 10, StateRecord.
+// The first rungs of every call on a record: refusal 11 for its kind, then 10, StateRecord. Inlined, since else
+// the record is copied into what is answered.
+#[inline(always)]
 pub fn check(s: State) -> Result<Tested, Refusal>
     ensures { said_checked result ≡ checked s (given s) }
 {

@@ -21,6 +21,7 @@ pub struct Measured {
 }
 
 impl Measured {
+    #[inline(always)]
     pub fn of(state: State) -> Measured
         requires { kind_holds state.kind ≡ true }
         ensures { result.state ≡ state }
@@ -31,7 +32,7 @@ impl Measured {
         }
     }
 
-    fn output(self) -> Option<usize>
+    pub fn output(self) -> Option<usize>
         ensures { result ≡ output_of self.state }
     {
         let s = self.state;
@@ -56,6 +57,7 @@ impl Measured {
             & sizes::size_holds(self.most, s.fill)
     }
 
+    #[inline(always)]
     pub(crate) fn is_state(self) -> bool
         ensures { result ≡ is_state self.state }
     {
